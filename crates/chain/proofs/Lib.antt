@@ -1,0 +1,5 @@
+pub mod Rows
+pub mod Releasing
+pub mod Numbers
+pub mod Memory
+pub mod Weights

@@ -1,0 +1,12 @@
+pub mod Ints
+pub mod ByRegister
+pub mod Fields
+pub mod Lists
+pub mod Fullness
+pub mod Columns
+pub mod Transposition
+pub mod Growth
+pub mod Plans
+pub mod Turned
+pub mod Walked
+pub mod Unique

@@ -1,0 +1,45 @@
+// Steps of a three-register unit: registers, sets of them, step words, and lists of steps with what they do.
+mod counting;
+mod effect;
+mod fault;
+mod judgement;
+mod judging;
+mod register;
+mod register_set;
+mod sets;
+mod step;
+#[cfg(test)]
+mod tests;
+mod text;
+mod turning;
+mod walking;
+mod word;
+
+pub use counting::count;
+pub use fault::RegisterFault;
+pub use fault::RegisterFaultDebug;
+pub use fault::StepAt;
+pub use fault::StepAtDebug;
+pub use fault::StepFault;
+pub use fault::StepFaultDebug;
+pub use fault::StepFaultFromRegisters;
+pub use fault::StepFaultFromWord;
+pub use fault::WalkFault;
+pub use fault::WalkFaultDebug;
+pub use fault::WalkFaultFromStep;
+pub use fault::WordFault;
+pub use fault::WordFaultDebug;
+pub use judgement::Judgement;
+pub use judgement::Reversal;
+pub use judging::judge;
+pub use register::Register;
+pub use register::Registers;
+pub use register::RegistersClone;
+pub use register_set::RegisterSet;
+pub use step::Counts;
+pub use step::Kind;
+pub use step::Step;
+pub use text::RegisterDisplay;
+pub use text::StepDisplay;
+pub use turning::turn;
+pub use walking::walk;
