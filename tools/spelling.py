@@ -7,7 +7,8 @@ usage: python3 tools/spelling.py            at the top of the repository; files 
 Every name that a file of specs/ or proofs/ declares, or gives by `as`, and that has a dash gets snake case, a type camel case.
 Names that Rattle makes (answers to goals, invariants) keep their dashes, and so does the code of src/: there only
 clauses, ghost items and ghost use lines are turned. In pages the names in backticks are turned.
-It stops, with nothing changed, where a new name would fall together with another one.
+It stops, with nothing changed, where a new name stands already in a file of specs/ or proofs/. It does not look for one in
+src/, and a name of the library that is spelled as one of this repository's is turned too, and has to be turned back.
 """
 
 import glob

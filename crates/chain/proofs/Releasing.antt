@@ -1,7 +1,6 @@
 -- The last step that reads T releases it: what that does to rows and full registers, for any plain steps, and that the steps stay lawful. Assumes nothing.
-use Rattle.std.proofs.Common.{◌≡◌, suc, Bool, true, false, not, ◌&&◌, ◌||◌, List, [], ◌∷◌, length, Ok, refl, ap, ◌∙◌, ⊎_elim, arith}
+use Rattle.std.proofs.Common.{◌≡◌, suc, Bool, true, false, not, ◌&&◌, ◌||◌, List, [], ◌∷◌, ◌++◌, length, Ok, refl, ap, ◌∙◌, ⊎_elim, arith}
 use Rattle.std.specs.List.{AllByRecursion as All}
-use Rattle.std.proofs.ByRecursion.{All-append, All-weaker}
 use Rattle.std.proofs.lemmas.Bool.{and_parts, or_parts, cases_Bool, or_from, cond_both, false≢true}
 use Rattle.std.proofs.lemmas.Bool.Decides.{nat_tests}
 use Rattle.recoding.specs.declared.pair.Pair.{Pair}
@@ -11,7 +10,7 @@ use Rattle.steps.specs.declared.register.Register.TheVariants.{T, P, Q}
 use Rattle.steps.specs.declared.register.Registers.{Registers}
 use Rattle.steps.specs.declared.step.Step.{Step}
 use Rattle.steps.specs.declared.step.Step.TheVariants.{Copy, Move, Swap, Invert, Square, Multiply, Gather}
-use Rattle.steps.specs.Registers.{at, put}
+use Rattle.steps.specs.Registers.{put}
 use Rattle.steps.specs.Sets.{Full}
 use Rattle.steps.specs.Steps.{same, first_register, second_register, lawful, is_invert, inverts}
 use Rattle.steps.specs.Fullness.{after, Fits}
@@ -20,6 +19,15 @@ use Rattle.steps.proofs.ByRegister.{Apart, at_other}
 use Rattle.steps.proofs.Fullness.{Fitting, copy_fits, move_fits, swap_fits, invert_fits, square_fits, multiply_fits, gather_fits, fitting}
 use Rattle.steps.proofs.Lists.{AllLawful}
 use Rattle.chain.specs.Chains.{pair_steps, pairs_steps, reads_T, releasing, any_reads_T, release, released, number_steps}
+
+-- what holds of each step of two lists holds of each of both, and so does what follows from it
+all_append : (M : Step → Type 0) (ss rs : List Step) → All M ss → All M rs → All M (ss ++ rs)
+all_append M [] rs h k = k
+all_append M (s ∷ ss) rs (h, hs) k = (h, all_append M ss rs hs k)
+
+all_weaker : (M N : Step → Type 0) → ((s : Step) → M s → N s) → (ss : List Step) → All M ss → All N ss
+all_weaker M N f [] h = tt
+all_weaker M N f (s ∷ ss) (h, hs) = (f s h, all_weaker M N f ss hs)
 
 -- T is neither register of the step
 abbrev WithoutT : Step → Type 0
@@ -189,14 +197,14 @@ pair_plain_proper p = passed (pair_steps p) (pair_passes p)
 
 pairs_plain_proper : (ps : List Pair) → All PlainProper (pairs_steps ps)
 pairs_plain_proper [] = tt
-pairs_plain_proper (p ∷ ps) = All-append PlainProper (pairs_steps ps) (pair_steps p) (pairs_plain_proper ps) (pair_plain_proper p)
+pairs_plain_proper (p ∷ ps) = all_append PlainProper (pairs_steps ps) (pair_steps p) (pairs_plain_proper ps) (pair_plain_proper p)
 
 all_proper : (ss : List Step) → All PlainProper ss → All Proper ss
-all_proper = All-weaker PlainProper Proper (λ s h. h.1)
+all_proper = all_weaker PlainProper Proper (λ s h. h.1)
 
 -- the steps of a number before T is released
 pub number_plain : (ps : List Pair) → AllPlain (Copy T P ∷ pairs_steps ps)
-number_plain ps = (refl, All-weaker PlainProper (λ s. plain s ≡ true) (λ s h. h.0) (pairs_steps ps) (pairs_plain_proper ps))
+number_plain ps = (refl, all_weaker PlainProper (λ s. plain s ≡ true) (λ s h. h.0) (pairs_steps ps) (pairs_plain_proper ps))
 
 number_proper : (ps : List Pair) → All Proper (number_steps ps)
 number_proper ps = proper_released (Copy T P ∷ pairs_steps ps) ((refl, refl), all_proper (pairs_steps ps) (pairs_plain_proper ps))

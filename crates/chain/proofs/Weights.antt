@@ -1,5 +1,5 @@
 -- The steps of a number, and these turned, walk to the number. Assumes nothing.
-use Rattle.std.proofs.Common.{◌≡◌, ℕ, ◌^◌, ◌<◌, Bool, true, false, List, [], ◌∷◌, map, ℤ, pos, ◌*ℤ◌, Ok, Err, Result, sym, refl, ap, ◌∙◌, subst, arith}
+use Rattle.std.proofs.Common.{◌≡◌, ℕ, ◌^◌, ◌<◌, List, [], ◌∷◌, map, pos, ◌*ℤ◌, Ok, Err, Result, refl, ap, ◌∙◌, subst, arith}
 use Rattle.std.proofs.lemmas.Int.{ints}
 use Rattle.recoding.specs.declared.pair.Pair.{Pair}
 use Rattle.recoding.specs.Tables.{table_of_thirty}
@@ -9,13 +9,13 @@ use Rattle.steps.specs.declared.register.Register.{Register}
 use Rattle.steps.specs.declared.register.Register.TheVariants.{T, P, Q}
 use Rattle.steps.specs.declared.register.Registers.{Registers}
 use Rattle.steps.specs.declared.step.Step.{Step}
-use Rattle.steps.specs.Registers.{three, at, put}
+use Rattle.steps.specs.Registers.{three, at}
 use Rattle.steps.specs.Sets.{Full}
-use Rattle.steps.specs.Steps.{inverts, turned}
+use Rattle.steps.specs.Steps.{turned}
 use Rattle.steps.specs.Words.{encoded, decoded}
 use Rattle.steps.specs.Fullness.{Fits}
-use Rattle.steps.specs.Tables.{Table, opening, table, entry, exchanged, zeros, times}
-use Rattle.steps.specs.Plans.{Plan, Walks}
+use Rattle.steps.specs.Tables.{Table, opening, table, entry, exchanged, zeros}
+use Rattle.steps.specs.Plans.{Walks}
 use Rattle.steps.proofs.Fields.{decode_encode}
 use Rattle.steps.proofs.Lists.{AllLawful, lawful_turned, inverts_turned}
 use Rattle.steps.proofs.Fullness.{fits_turned}

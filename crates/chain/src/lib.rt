@@ -1,4 +1,6 @@
 // Addition chains: the steps for a pair and for a job number, laid into a caller's memory of words.
+#![tactic(auto)]
+
 mod fault;
 mod laying;
 mod pairs;

@@ -1,4 +1,6 @@
 // Worked examples, what came beside what should: word faults, register faults, plans, weights and turned plans.
+#![tactic(auto)]
+
 use chain::{lay_number, weigh};
 use std::io;
 use steps::{Register, RegisterSet, Step, judge, turn};

@@ -1,4 +1,6 @@
 // Job numbers from start to finish: each division, the pairs, the plan step by step, its weight, and the same turned round.
+#![tactic(auto)]
+
 use chain::{lay_number, weigh};
 use recoding::{Pair, divide, divide_once};
 use std::{env, io};

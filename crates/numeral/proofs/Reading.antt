@@ -1,5 +1,5 @@
 -- Digits read one after the other. Assumes nothing.
-use Rattle.std.proofs.Common.{◌≡◌, ℕ, ◌+◌, ◌*◌, ◌^◌, ◌<◌, ◌≤◌, List, [], ◌∷◌, ◌++◌, length, get_or, drop, Some, None, Option, sym, refl, ap, ◌∙◌, not-suc-le-zero, mul_assoc, add_mul, pow-suc, add-one, arith, length-append}
+use Rattle.std.proofs.Common.{◌≡◌, ℕ, ◌+◌, ◌*◌, ◌^◌, ◌<◌, ◌≤◌, List, [], ◌∷◌, ◌++◌, length, get_or, drop, Some, None, Option, sym, refl, ap, ◌∙◌, not-suc-le-zero, mul_assoc, add-mul, pow-suc, add-one, arith, length-append}
 use native.Mathlib.Nat.{pow-zero}
 use Rattle.std.proofs.lemmas.List.{append_assoc, append-nil, at_drop_more, at_drop_all}
 use Rattle.std.specs.Option.{option_map, option_zip}
@@ -11,7 +11,7 @@ value_push base [] d = rw pow-zero (omega arith)
 value_push base (x ∷ ds) d =
     let shifted : base ^ length (ds ++ (d ∷ [])) ≡ base ^ length ds * base = rw (length-append, add-one, pow-suc) in
     let first = ap (λ k. x * k) shifted ∙ sym (mul_assoc x (base ^ length ds) base) in
-    omega (arith, first, value_push base ds d, add_mul (x * base ^ length ds) (value_of base ds) base)
+    omega (arith, first, value_push base ds d, add-mul (x * base ^ length ds) (value_of base ds) base)
 
 module _ (base : ℕ) (bytes : List ℕ) where
   -- the number that these digits write with those of the rest behind them

@@ -1,5 +1,5 @@
 -- The number that a text writes, and the answer to it. Assumes nothing.
-use Rattle.std.specs.Prelude.{ℕ, ◌+◌, ◌-◌, ◌*◌, ◌^◌, Bool, false, cond, ◌&&◌, List, [], ◌∷◌, length, drop, Some, None, Ok, Err, Option, Result, ◌==◌, nat_lt}
+use Rattle.std.specs.Prelude.{ℕ, ◌+◌, ◌-◌, ◌*◌, ◌^◌, Bool, false, cond, ◌&&◌, List, [], ◌∷◌, length, drop, Some, None, Err, Option, Result, ◌==◌, nat_lt}
 use Rattle.std.specs.Option.{option_map, option_zip, option_flatten, ok_or}
 use Rattle.std.specs.Bool.{then_some}
 use Rattle.std.specs.Int.{is_in_range}

@@ -1,4 +1,6 @@
 // Job numbers as text.
+#![tactic(auto)]
+
 mod digits;
 mod fault;
 #[cfg(test)]

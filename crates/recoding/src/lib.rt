@@ -1,4 +1,6 @@
 // Job numbers in a mixed base: pairs of a base and a digit, the division table, and the division of a number into its pairs.
+#![tactic(auto)]
+
 mod dividing;
 mod division;
 mod fault;

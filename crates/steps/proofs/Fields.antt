@@ -1,5 +1,5 @@
 -- Step words and steps, one to one: decoding undoes encoding, and a word that decodes is the encoding of its step. Assumes nothing.
-use Rattle.std.proofs.Common.{◌≡◌, ℕ, ◌+◌, ◌*◌, ◌/◌, ◌%◌, ◌^◌, ◌<◌, Bool, true, false, cond, eqb, ltb, IfOk, Some, None, Ok, Err, Option, Result, sym, refl, ap, ◌∙◌, arith}
+use Rattle.std.proofs.Common.{◌≡◌, ℕ, ◌+◌, ◌*◌, ◌/◌, ◌%◌, ◌^◌, ◌<◌, Bool, true, false, cond, eqb, IfOk, Some, None, Ok, Err, Option, Result, sym, refl, ap, ◌∙◌, arith}
 use Rattle.std.proofs.lemmas.Bool.{eqb-true}
 use Rattle.std.proofs.lemmas.Bool.Decides.{nat_tests}
 use Rattle.std.specs.Option.{ok_or}
@@ -12,8 +12,8 @@ use Rattle.steps.specs.declared.step.Kind.TheVariants as kind
 use Rattle.steps.specs.declared.step.Step.{Step}
 use Rattle.steps.specs.declared.step.Step.TheVariants.{Copy, Move, Swap, Invert, Square, Multiply, Gather}
 use Rattle.steps.specs.Registers.{number_of}
-use Rattle.steps.specs.Steps.{kind_number, kind_of, first_register, second_register, step_of, same, allowed, lawful}
-use Rattle.steps.specs.Words.{encoded, kind_numbered, register_numbered, by_rule, by_form, by_kind, decoded}
+use Rattle.steps.specs.Steps.{kind_number, kind_of, first_register, second_register, step_of, allowed, lawful}
+use Rattle.steps.specs.Words.{encoded, kind_numbered, register_numbered, by_kind, decoded}
 
 -- numbers back to kinds and registers
 kind_back : (k : Kind) → kind_numbered (kind_number k) ≡ Some k

@@ -1,16 +1,15 @@
 -- Plans grow by a word at a time, count as their steps do, and have lawful steps, whose words they are. Assumes nothing.
-use Rattle.std.proofs.Common.{◌≡◌, ℕ, suc, ◌+◌, ◌<◌, ◌≤◌, true, false, ◌||◌, List, [], ◌∷◌, ◌++◌, map, length, get_or, take, drop, Ok, Err, Result, sym, refl, ap, ◌∙◌, subst, arith}
+use Rattle.std.proofs.Common.{◌≡◌, ℕ, suc, ◌+◌, ◌<◌, ◌≤◌, false, ◌||◌, List, [], ◌∷◌, ◌++◌, map, length, get_or, take, Ok, Err, Result, sym, refl, ap, ◌∙◌, subst, arith}
 use mathlib.Core.Bool.{or_comm}
 use Rattle.std.proofs.lemmas.List.{take_more, map_push, take_all}
 use Rattle.steps.specs.declared.fault.RegisterFault.{RegisterFault}
 use Rattle.steps.specs.declared.fault.StepAt.{StepAt}
-use Rattle.steps.specs.declared.fault.StepFault.{StepFault}
 use Rattle.steps.specs.declared.fault.WordFault.{WordFault}
 use Rattle.steps.specs.declared.step.Step.{Step}
 use Rattle.steps.specs.Sets.{Full}
-use Rattle.steps.specs.Steps.{lawful, squarings, multiplications, is_invert, inverts}
+use Rattle.steps.specs.Steps.{squarings, multiplications, is_invert, inverts}
 use Rattle.steps.specs.Words.{encoded, decoded}
-use Rattle.steps.specs.Fullness.{after, Fits}
+use Rattle.steps.specs.Fullness.{after}
 use Rattle.steps.specs.Plans.{step_before, steps_in, of_registers, step_from, stepped, Plan, Refused}
 use Rattle.steps.proofs.Fields.{encode_decode}
 use Rattle.steps.proofs.Lists.{AllLawful, fits_append}

@@ -1,10 +1,9 @@
 -- The words of a plan that was turned, and its counts. Assumes nothing.
-use Rattle.std.proofs.Common.{◌≡◌, ℕ, ◌+◌, ◌^◌, ◌<◌, ◌≤◌, List, [], ◌∷◌, ◌++◌, map, reverse, length, Ok, Err, sym, refl, ap, ◌∙◌, arith}
+use Rattle.std.proofs.Common.{◌≡◌, ℕ, ◌+◌, ◌^◌, ◌<◌, ◌≤◌, List, [], ◌∷◌, ◌++◌, map, reverse, length, Ok, sym, refl, ap, ◌∙◌, arith}
 use mathlib.Core.List.{reverse-cons}
 use lib.ListN.{length-map, length-reverse}
 use Rattle.std.proofs.lemmas.List.{map_push}
 use Rattle.steps.specs.declared.judgement.Judgement.{Judgement}
-use Rattle.steps.specs.declared.register_set.RegisterSet.{RegisterSet}
 use Rattle.steps.specs.declared.step.Counts.{Counts}
 use Rattle.steps.specs.declared.step.Kind.{Kind}
 use Rattle.steps.specs.declared.step.Kind.TheVariants as kind
@@ -12,7 +11,7 @@ use Rattle.steps.specs.declared.step.Step.{Step}
 use Rattle.steps.specs.Sets.{Full, members, size}
 use Rattle.steps.specs.Steps.{kind_of, multiplying, multiplications, transposed, turned}
 use Rattle.steps.specs.Words.{encoded, decoded}
-use Rattle.steps.specs.Plans.{transpose_or, word_transposed, Plan, Accepted, TurnedRound}
+use Rattle.steps.specs.Plans.{transpose_or, word_transposed, Accepted, TurnedRound}
 use Rattle.steps.proofs.Fields.{encode_decode, decode_encode}
 use Rattle.steps.proofs.Lists.{AllLawful, lawful_transposed, turned_turned}
 use Rattle.steps.proofs.Fullness.{fits_turned, squarings_turned, multiplications_turned}

@@ -1,5 +1,5 @@
 -- A plan is read, fits and walks in one way only: it is not refused, and its column is the one found. Assumes nothing.
-use Rattle.std.proofs.Common.{◌≡◌, ℕ, ◌+◌, ◌^◌, ◌<◌, ◌≤◌, Bool, true, false, List, [], ◌∷◌, map, length, get_or, take, drop, ℤ, pos, ◌≤ℤ◌, Ok, Err, Result, sym, refl, ap, ◌∙◌, subst, arith}
+use Rattle.std.proofs.Common.{◌≡◌, ℕ, ◌^◌, ◌<◌, true, false, List, [], ◌∷◌, map, length, get_or, take, pos, ◌≤ℤ◌, Ok, Err, Result, sym, refl, ap, ◌∙◌, subst, arith}
 use Rattle.std.proofs.lemmas.List.{take-map, at_drop_more}
 use Rattle.std.proofs.lemmas.Int.{ints}
 use Rattle.steps.specs.declared.fault.RegisterFault.{RegisterFault}
@@ -16,13 +16,13 @@ use Rattle.steps.specs.Registers.{three, at}
 use Rattle.steps.specs.Sets.{Full}
 use Rattle.steps.specs.Steps.{inverts}
 use Rattle.steps.specs.Words.{decoded}
-use Rattle.steps.specs.Fullness.{after, Fits}
+use Rattle.steps.specs.Fullness.{Fits}
 use Rattle.steps.specs.Tables.{table, entry}
 use Rattle.steps.specs.Columns.{peak}
-use Rattle.steps.specs.Plans.{of_registers, step_from, stepped, Plan, Refused, Walked, Overflows, Inverting, Walks}
+use Rattle.steps.specs.Plans.{of_registers, step_from, stepped, Plan, Refused, Walks}
 use Rattle.steps.proofs.Growth.{at_peak, take_fits}
 use Rattle.steps.proofs.Plans.{oks, heads, no_word, plan_length}
-use Rattle.steps.proofs.Walked.{step_at, decoded_at, no_step}
+use Rattle.steps.proofs.Walked.{decoded_at, no_step}
 
 steps_same : (ss rs : List Step) → oks ss ≡ oks rs → ss ≡ rs
 steps_same [] [] e = refl

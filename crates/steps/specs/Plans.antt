@@ -1,5 +1,5 @@
 -- Step words as plans: what judging, turning and walking them answers. Assumes nothing.
-use Rattle.std.specs.Prelude.{◌≡◌, ℕ, ◌+◌, ◌^◌, ◌<◌, true, false, List, [], ◌∷◌, map, length, take, ℤ, pos, ◌≤ℤ◌, ◌<ℤ◌, Ok, Err, Result, slice_index}
+use Rattle.std.specs.Prelude.{◌≡◌, ℕ, ◌+◌, ◌^◌, ◌<◌, true, false, List, [], ◌∷◌, map, length, take, pos, ◌≤ℤ◌, ◌<ℤ◌, Ok, Err, Result, slice_index}
 use Rattle.steps.specs.declared.fault.RegisterFault.{RegisterFault}
 use Rattle.steps.specs.declared.fault.StepAt.{StepAt}
 use Rattle.steps.specs.declared.fault.StepFault.{StepFault}

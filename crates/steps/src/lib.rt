@@ -1,4 +1,6 @@
 // Steps of a three-register unit: registers, sets of them, step words, and lists of steps with what they do.
+#![tactic(auto)]
+
 mod counting;
 mod effect;
 mod fault;

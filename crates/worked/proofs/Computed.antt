@@ -1,9 +1,5 @@
 -- The worked facts, each by computation. Assumes nothing.
-use mathlib.Core.Path.{◌≡◌, refl}
-use mathlib.Core.List.{List, [], ◌∷◌, map}
-use Prim.Native.Nat.{ℕ, ◌+◌, ◌*◌, ◌%◌, ◌<◌}
-use lib.Dec.{lit<}
-use lib.IntN.{pos}
+use Rattle.std.proofs.Common.{◌≡◌, ℕ, ◌+◌, ◌*◌, ◌%◌, ◌<◌, pos, List, [], ◌∷◌, map, refl, lit<}
 use Rattle.recoding.specs.declared.pair.Pair.{Pair}
 use Rattle.recoding.specs.declared.pair.Pair.TheVariants.{TwoZero, TwoOne, ThreeZero, ThreeOne, ThreeTwo, FiveThree}
 use Rattle.recoding.specs.Pairs.{base_of, digit_of}

@@ -6,7 +6,6 @@ use Rattle.recoding.specs.Tables.{table_of_thirty}
 use Rattle.recoding.specs.Divisions.{DividesDown}
 use Rattle.steps.specs.declared.register.Register.TheVariants.{T, P}
 use Rattle.steps.specs.declared.step.Step.{Step}
-use Rattle.steps.specs.Sets.{Full}
 use Rattle.steps.specs.Steps.{squarings, multiplications, turned}
 use Rattle.steps.specs.Words.{encoded}
 use Rattle.steps.specs.Tables.{table, entry}

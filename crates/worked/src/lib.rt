@@ -1,4 +1,6 @@
 // Plans worked through by hand, as one table of facts about the definitions.
+#![tactic(auto)]
+
 ghost use Rattle.std.specs.Prelude.{◌≡◌};
 ghost use Rattle.worked.specs.Facts.{numbers, Facts};
 

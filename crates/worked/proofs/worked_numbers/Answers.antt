@@ -1,4 +1,4 @@
-use mathlib.Core.Path.{refl}
+use Rattle.std.proofs.Common.{refl}
 use Rattle.worked.proofs.Computed.{computed}
 use Rattle.worked.proofs.worked_numbers.Goals as goal
 

@@ -9,7 +9,7 @@ loop-i-init c = laid_none c.args.steps.now c.args.words.now c.args.end c.args.la
 pub loop-i-preserved : goal.loop-i-preserved
 loop-i-preserved c =
     laid_more c.args.steps.now c.args.words.now (c.args.end - length c.args.steps.now) c.args.end c.args.later c.loop-i.i c.loop-i.reads c.loop-i.words _
-    c.loop-i-test.true (omega arith) (omega arith) c.loop-i.invariant c.reads-t-reads.result c.encode.result c.reads-t-reads.ensures (c.encode.ensures.value ∙ ap encoded c.release-unless.ensures)
+    c.loop-i-test.true (omega arith) (omega arith) c.loop-i.invariant c.reads_t-reads.result c.encode.result c.reads_t-reads.ensures (c.encode.ensures.value ∙ ap encoded c.release_unless.ensures)
 
 pub returns : goal.returns
 returns c =

@@ -2,5 +2,5 @@
 use Rattle.std.proofs.Common.{le-mul_of_pos_right, rules}
 use Rattle.numeral.proofs.digits.append.Goals as goal
 
-pub returns-in-err-value : goal.returns-in-err-value
-returns-in-err-value c = λ n e. let more = le-mul_of_pos_right n c.requires in search rules
+pub returns-in_err-value : goal.returns-in_err-value
+returns-in_err-value c = λ n e. let more = le-mul_of_pos_right n c.requires in search rules

@@ -6,9 +6,9 @@ use Rattle.numeral.proofs.digits.number.Goals as goal
 pub loop-byte-init : goal.loop-byte-init
 loop-byte-init c = start _ _ (search rules)
 
-pub returns-in-default : goal.returns-in-default
-returns-in-default c =
-    let none = stopped _ _ _ _ c.loop-byte.invariant c.loop-byte-test.true (sym c.in-default.ensures) in search rules
+pub returns-in_default : goal.returns-in_default
+returns-in_default c =
+    let none = stopped _ _ _ _ c.loop-byte.invariant c.loop-byte-test.true (sym c.in_default.ensures) in search rules
 
 pub loop-byte-preserved : goal.loop-byte-preserved
 loop-byte-preserved c =

@@ -8,4 +8,4 @@ use Rattle.recoding.proofs.table.division_table.Goals as goal
 pub returns : goal.returns
 returns c =
     let value = c.entries.ensures in
-    record { value = value; fits = subst Fitting (sym value) thirty_fit; every-table = every_fitting }
+    record { value = value; fits = subst Fitting (sym value) thirty_fit; every_table = every_fitting }

@@ -15,8 +15,8 @@ loop-word-preserved c =
     let rest = steps_in (drop (i + 1) ws) in
     let s = at_drop_more (λ l. squarings (steps_in l)) ws i 0 c.loop-word-test.true in
     let m = at_drop_more (λ l. multiplications (steps_in l)) ws i 0 c.loop-word-test.true in
-    let s1 = ap (λ (k : Counts). k.squarings) c.count-word-one.ensures.value in
-    let m1 = ap (λ (k : Counts). k.multiplications) c.count-word-one.ensures.value in
+    let s1 = ap (λ (k : Counts). k.squarings) c.count_word-one.ensures.value in
+    let m1 = ap (λ (k : Counts). k.multiplications) c.count_word-one.ensures.value in
     (omega (arith, squarings_before word rest), omega (arith, multiplications_before word rest), omega arith, omega arith)
 
 pub returns : goal.returns

@@ -1,4 +1,4 @@
-use Rattle.std.proofs.Common.{◌≡◌, [], ap, ◌∙◌}
+use Rattle.std.proofs.Common.{[], ap, ◌∙◌}
 use Rattle.std.proofs.lemmas.Result.{err_from_is_err_and}
 use Rattle.steps.specs.Sets.{members}
 use Rattle.steps.specs.Steps.{counts_of}
@@ -9,17 +9,17 @@ use Rattle.steps.proofs.judging.judge.Goals as goal
 pub loop-place-init : goal.loop-place-init
 loop-place-init c = ([], plan_none (members c.args.start) c.args.words.now)
 
-pub returns-in-err-full : goal.returns-in-err-full
-returns-in-err-full c =
-    let p = err_from_is_err_and c.from-residual.result c.from-residual.ensures.1 in
+pub returns-in_err-full : goal.returns-in_err-full
+returns-in_err-full c =
+    let p = err_from_is_err_and c.from_residual.result c.from_residual.ensures.1 in
     let so_far = c.loop-place.invariant in
     rw (p.1, p.2)
-    (refused_at (members c.args.start) (members c.loop-place.full) c.args.words.now so_far.0 c.loop-place.place c.in-err-full.field-0.0 c.loop-place-test.true so_far.1 c.in-err-full.ensures)
+    (refused_at (members c.args.start) (members c.loop-place.full) c.args.words.now so_far.0 c.loop-place.place c.in_err-full.field-0.0 c.loop-place-test.true so_far.1 c.in_err-full.ensures)
 
 pub loop-place-preserved : goal.loop-place-preserved
 loop-place-preserved c =
     let so_far = c.loop-place.invariant in
-    plan_more (members c.args.start) (members c.loop-place.full) (members c.in-ok-full.full) c.args.words.now so_far.0 c.loop-place.place c.loop-place-test.true so_far.1 c.in-ok-full.ensures
+    plan_more (members c.args.start) (members c.loop-place.full) (members c.in_ok-full.full) c.args.words.now so_far.0 c.loop-place.place c.loop-place-test.true so_far.1 c.in_ok-full.ensures
 
 pub returns : goal.returns
 returns c =

@@ -1,5 +1,4 @@
-use Rattle.std.proofs.Common.{◌≡◌, ◌+◌, ◌*◌, ◌%◌, ◌^◌, ◌<◌, ap, ◌∙◌, arith, rules}
-use Rattle.steps.specs.Registers.{number_of}
+use Rattle.std.proofs.Common.{◌≡◌, ◌+◌, ◌*◌, ◌%◌, ◌^◌, ap, ◌∙◌, rules}
 use Rattle.steps.specs.Steps.{first_register, second_register}
 use Rattle.steps.specs.Words.{encoded, decoded}
 use Rattle.steps.proofs.Fields.{register_low, decode_encode}
