@@ -1,9 +1,7 @@
 -- The steps of a number: what they do to the rows, where they fit, and how many they are. Assumes nothing.
-use Rattle.std.proofs.Common.{◌≡◌, ℕ, ◌+◌, ◌-◌, ◌*◌, ◌^◌, ◌<◌, ◌≤◌, List, [], ◌∷◌, length, ℤ, pos, ◌+ℤ◌, ◌*ℤ◌, sym, refl, ap, ◌∙◌, ⊎_elim, arith, lit≤, length-append, pow_mono}
+use Rattle.std.proofs.Common.{◌≡◌, ℕ, ◌+◌, ◌-◌, ◌*◌, ◌^◌, ◌<◌, ◌≤◌, cond, leb, List, [], ◌∷◌, length, ℤ, pos, ◌+ℤ◌, ◌*ℤ◌, sym, refl, ap, ◌∙◌, arith, lit≤, length-append, pow_mono}
 use Rattle.std.proofs.lemmas.Nat.{pow-add, mul-le}
-use Rattle.std.proofs.lemmas.Bool.{cases_lt}
 use Rattle.recoding.specs.declared.pair.Pair.{Pair}
-use Rattle.recoding.specs.declared.pair.Pair.TheVariants.{TwoZero, TwoOne, ThreeZero, ThreeOne, ThreeTwo, FiveZero, FiveOne, FiveTwo, FiveThree, FiveFour}
 use Rattle.recoding.specs.Pairs.{base_of, digit_of, worth}
 use Rattle.recoding.specs.Tables.{table_of_thirty}
 use Rattle.recoding.specs.Divisions.{Recoded}
@@ -40,16 +38,7 @@ pairs_fit (p ∷ ps) = fits_append (pairs_steps ps) (pair_steps p) T_and_P T_and
 
 -- a pair takes k bits off a number, one or two, and has at most 4 steps for each
 pub pair_short : (p : Pair) → (k : ℕ) × (length (pair_steps p) ≤ 4 * k) × (2 ^ k ≤ base_of p) × (k ≤ 2)
-pair_short TwoZero = (1, lit≤ tt, lit≤ tt, lit≤ tt)
-pair_short TwoOne = (1, lit≤ tt, lit≤ tt, lit≤ tt)
-pair_short ThreeZero = (1, lit≤ tt, lit≤ tt, lit≤ tt)
-pair_short ThreeOne = (1, lit≤ tt, lit≤ tt, lit≤ tt)
-pair_short ThreeTwo = (1, lit≤ tt, lit≤ tt, lit≤ tt)
-pair_short FiveZero = (2, lit≤ tt, lit≤ tt, lit≤ tt)
-pair_short FiveOne = (2, lit≤ tt, lit≤ tt, lit≤ tt)
-pair_short FiveTwo = (2, lit≤ tt, lit≤ tt, lit≤ tt)
-pair_short FiveThree = (2, lit≤ tt, lit≤ tt, lit≤ tt)
-pair_short FiveFour = (2, lit≤ tt, lit≤ tt, lit≤ tt)
+pair_short p = (cond (leb 5 (base_of p)) 2 1, grind arith, grind arith, grind arith)
 
 pairs_short : (ps : List Pair) → (k : ℕ) × (length (pairs_steps ps) ≤ 4 * k) × (2 ^ k ≤ worth ps)
 pairs_short [] = (0, lit≤ tt, lit≤ tt)
@@ -65,7 +54,7 @@ pairs_short (p ∷ ps) =
 number_short : (ps : List Pair) (b : ℕ) → worth ps < 2 ^ b → length (number_steps ps) ≤ 4 * (b - 1) + 1
 number_short ps b below =
     let (k, few, low) = pairs_short ps in
-    let under : k < b = ⊎_elim (λ lt. lt) (λ ge. absurd (omega (arith, pow_mono ge))) (cases_lt k b) in
+    let under : k < b = grind (arith, pow_mono) in
     omega (arith, length_released (Copy T P ∷ pairs_steps ps))
 
 pub number_does : (n : ℕ) (ps : List Pair) → Recoded table_of_thirty n ps → NumberSteps n ps (number_steps ps)

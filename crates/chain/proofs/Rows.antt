@@ -20,10 +20,10 @@ at_P : {x y z : ℤ} → y ≡ z → three x y (pos 0) ≡ three x z (pos 0)
 at_P {x} e = ap (λ y. three x y (pos 0)) e
 
 -- by the fit, and by what the steps do to a column with x at T, y at P and 0 at Q
-does : (p : Pair) → Fits T_and_P (pair_steps p) T_and_P
+does : {p : Pair} → Fits T_and_P (pair_steps p) T_and_P
     → ((x y : ℤ) → steps_column (pair_steps p) (three x y (pos 0)) ≡ three x (pos (base_of p) *ℤ y +ℤ pos (digit_of p) *ℤ x) (pos 0))
     → PairSteps p (pair_steps p)
-does p fit entry =
+does {p} fit entry =
     record {
       listed = refl;
       fits = fit;
@@ -38,13 +38,13 @@ does p fit entry =
     }
 
 pub pair_does : (p : Pair) → PairSteps p (pair_steps p)
-pair_does TwoZero = does TwoZero (_, refl, refl) (λ x y. at_P (omega (arith, ints)))
-pair_does TwoOne = does TwoOne (_, refl, (_, refl, refl)) (λ x y. at_P (omega (arith, ints)))
-pair_does ThreeZero = does ThreeZero (_, refl, (_, refl, (_, refl, refl))) (λ x y. at_P (omega (arith, ints)))
-pair_does ThreeOne = does ThreeOne (_, refl, (_, refl, (_, refl, (_, refl, refl)))) (λ x y. at_P (omega (arith, ints)))
-pair_does ThreeTwo = does ThreeTwo (_, refl, (_, refl, (_, refl, (_, refl, refl)))) (λ x y. at_P (omega (arith, ints)))
-pair_does FiveZero = does FiveZero (_, refl, (_, refl, (_, refl, (_, refl, refl)))) (λ x y. at_P (omega (arith, ints)))
-pair_does FiveOne = does FiveOne (_, refl, (_, refl, (_, refl, (_, refl, (_, refl, refl))))) (λ x y. at_P (omega (arith, ints)))
-pair_does FiveTwo = does FiveTwo (_, refl, (_, refl, (_, refl, (_, refl, (_, refl, refl))))) (λ x y. at_P (omega (arith, ints)))
-pair_does FiveThree = does FiveThree (_, refl, (_, refl, (_, refl, (_, refl, (_, refl, refl))))) (λ x y. at_P (omega (arith, ints)))
-pair_does FiveFour = does FiveFour (_, refl, (_, refl, (_, refl, (_, refl, (_, refl, refl))))) (λ x y. at_P (omega (arith, ints)))
+pair_does TwoZero = does (_, refl, refl) (λ x y. at_P (omega (arith, ints)))
+pair_does TwoOne = does (_, refl, (_, refl, refl)) (λ x y. at_P (omega (arith, ints)))
+pair_does ThreeZero = does (_, refl, (_, refl, (_, refl, refl))) (λ x y. at_P (omega (arith, ints)))
+pair_does ThreeOne = does (_, refl, (_, refl, (_, refl, (_, refl, refl)))) (λ x y. at_P (omega (arith, ints)))
+pair_does ThreeTwo = does (_, refl, (_, refl, (_, refl, (_, refl, refl)))) (λ x y. at_P (omega (arith, ints)))
+pair_does FiveZero = does (_, refl, (_, refl, (_, refl, (_, refl, refl)))) (λ x y. at_P (omega (arith, ints)))
+pair_does FiveOne = does (_, refl, (_, refl, (_, refl, (_, refl, (_, refl, refl))))) (λ x y. at_P (omega (arith, ints)))
+pair_does FiveTwo = does (_, refl, (_, refl, (_, refl, (_, refl, (_, refl, refl))))) (λ x y. at_P (omega (arith, ints)))
+pair_does FiveThree = does (_, refl, (_, refl, (_, refl, (_, refl, (_, refl, refl))))) (λ x y. at_P (omega (arith, ints)))
+pair_does FiveFour = does (_, refl, (_, refl, (_, refl, (_, refl, (_, refl, refl))))) (λ x y. at_P (omega (arith, ints)))

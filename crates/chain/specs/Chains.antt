@@ -60,14 +60,10 @@ any_reads_T (s ∷ ss) = reads_T s || any_reads_T ss
 abbrev pub release : Bool → Step → Step
 release later s = cond later s (cond (reads_T s) (releasing s) s)
 
--- the last step that reads T releases it, unless `later` tells that one behind these steps reads T
-abbrev pub released_before : Bool → List Step → List Step
-released_before later [] = []
-released_before later (s ∷ ss) = release (later || any_reads_T ss) s ∷ released_before later ss
-
 -- the last step that reads T releases it
 abbrev pub released : List Step → List Step
-released ss = released_before false ss
+released [] = []
+released (s ∷ ss) = release (any_reads_T ss) s ∷ released ss
 
 -- the steps of the number that the pairs stand for
 abbrev pub number_steps : List Pair → List Step

@@ -4,8 +4,10 @@ ghost use Rattle.chain.specs.declared.fault.ChainFault.TheVariants as chain;
 ghost use Rattle.chain.specs.Faults.{chain_number, chain_text};
 
 use recoding::NumberFault;
+use refusal::Refusal;
 use std::fmt;
 
+/// Why no steps are laid.
 #[derive(Clone, Copy, Debug, PartialEq, Eq)]
 pub enum ChainFault {
     /// The number has no pairs.
@@ -22,11 +24,10 @@ impl From<NumberFault> for ChainFault {
     }
 }
 
-impl ChainFault {
-    /// The number that the logger shows.
-    pub fn number(self) -> u32
-        ensures { result ≡ chain_number self }
-    {
+impl Refusal for ChainFault {
+    ghost shown_as = { chain_number };
+
+    fn number(self) -> u32 {
         match self {
             ChainFault::Number(fault) => fault.number(),
             ChainFault::Capacity => 32,

@@ -1,7 +1,7 @@
 // Steps laid into a caller's memory of words. The memory is the logger's own, so nothing is allocated.
-ghost use Rattle.std.specs.Prelude.{◌≡◌, ◌+◌, ◌-◌, ◌≤◌, ◌||◌, ◌++◌, map, length, take, drop};
+ghost use Rattle.std.specs.Prelude.{◌≡◌, ◌≤◌, map, length};
 ghost use Rattle.steps.specs.Words.{encoded};
-ghost use Rattle.chain.specs.Chains.{reads_T, release, any_reads_T, released_before, number_steps};
+ghost use Rattle.chain.specs.Chains.{reads_T, release, number_steps};
 ghost use Rattle.chain.specs.Laid.{LaysPair, LaysNumber};
 
 use super::fault::ChainFault;
@@ -48,50 +48,32 @@ fn release_unless(later: bool, step: Step) -> Step
     }
 }
 
-// Lays steps right before the word at `end`, from the last back to the first; `later` tells whether a step behind reads T.
-// Answers whether one of these or behind them does.
-fn lay_before(steps: &[Step], words: &mut [u32], end: usize, later: bool) -> bool
-    requires room { length steps.now ≤ end }
-    requires within { end ≤ length words.old }
-    ensures reads { result ≡ (later || any_reads_T steps.now) }
-    ensures laid { words.new ≡ take (end - length steps.now) words.old ++ (map encoded (released_before later steps.now) ++ drop end words.old) }
-{
-    let start = end - steps.len();
-    let mut reads = later;
-    for i in (0..steps.len()).rev() {
-        let step = steps[i];
-        words[start + i] = release_unless(reads, step).encode();
-        reads |= reads_t(step);
-    }
-    reads
-}
-
 // The number of steps of a number with these pairs.
 fn step_count(pairs: &[Pair]) -> usize
     requires { length pairs.now ≤ 63 }
     ensures { result ≡ length (number_steps pairs.now) }
 {
-    let mut count: usize = 1;
-    for pair in pairs {
-        count += steps_of_pair(*pair).len();
-    }
-    count
+    1 + pairs
+        .iter()
+        .map(|pair| steps_of_pair(*pair).len())
+        .sum::<usize>()
 }
 
-// Lays the steps of a number with these pairs into the first `count` words, from the last back to the first.
-fn lay_pairs(pairs: &[Pair], words: &mut [u32], count: usize)
-    requires counted { count ≡ length (number_steps pairs.now) }
-    requires within { count ≤ length words.old }
-    ensures { words.new ≡ map encoded (number_steps pairs.now) ++ drop count words.old }
+// Lays the steps of a number with these pairs into as many words, from the last back to the first.
+fn lay_pairs(pairs: &[Pair], words: &mut [u32])
+    requires { length words.old ≡ length (number_steps pairs.now) }
+    ensures { words.new ≡ map encoded (number_steps pairs.now) }
 {
-    let mut end = count;
+    let backwards = pairs
+        .iter()
+        .flat_map(|pair| steps_of_pair(*pair).iter().rev())
+        .chain(&[COPY_T_P]);
+    // Whether a step laid so far reads T; these are the later ones of the plan.
     let mut reads = false;
-    for pair in pairs {
-        let steps = steps_of_pair(*pair);
-        reads = lay_before(steps, words, end, reads);
-        end -= steps.len();
+    for (place, step) in (0..words.len()).rev().zip(backwards) {
+        words[place] = u32::from(release_unless(reads, *step));
+        reads |= reads_t(*step);
     }
-    let _ = lay_before(&[COPY_T_P], words, end, reads);
 }
 
 /// Lays the steps of a pair at the front of the memory and answers how many they are.
@@ -103,12 +85,15 @@ pub fn lay_pair(pair: Pair, words: &mut [u32]) -> Result<usize, ChainFault>
     if words.len() < count {
         return Err(ChainFault::Capacity);
     }
-    // A pair alone releases nothing: it is laid as if a later step read T.
-    let _ = lay_before(steps, words, count, true);
+    // By place, since of a zip over `iter_mut` a proof does not learn what the words then hold.
+    for (place, step) in steps.iter().enumerate() {
+        words[place] = u32::from(*step);
+    }
     Ok(count)
 }
 
 /// Lays the steps of a job number at the front of the memory and answers how many they are.
+#[tactic(auto, using(crate::proofs::Memory::number_laid))]
 pub fn lay_number(number: u64, words: &mut [u32]) -> Result<usize, ChainFault>
     ensures { LaysNumber number words.old words.new result }
 {
@@ -118,6 +103,6 @@ pub fn lay_number(number: u64, words: &mut [u32]) -> Result<usize, ChainFault>
     if count > words.len() {
         return Err(ChainFault::Capacity);
     }
-    lay_pairs(pairs, words, count);
+    lay_pairs(pairs, &mut words[..count]);
     Ok(count)
 }

@@ -44,6 +44,7 @@ fn listed_steps(pair: Pair) -> &'static [Step]
 }
 
 /// The steps that turn P into P to the power of the base, joined with T to the power of the digit.
+#[tactic(auto, using(crate::proofs::Rows::pair_does))]
 pub fn steps_of_pair(pair: Pair) -> &'static [Step]
     ensures { PairSteps pair result.now }
 {

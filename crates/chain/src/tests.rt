@@ -1,20 +1,19 @@
 // Worked plans, with their words, counts and weights, and what is refused.
 use super::{lay_number, lay_pair, weigh};
 use recoding::Pair;
+use refusal::Refusal;
 use std::process::Abort;
 use std::test::Fail;
 use steps::Register::{P, T};
-use steps::{RegisterSet, judge, turn};
+use steps::{Counts, RegisterSet, judge, turn};
 
 // What the memory holds before.
 const OTHER: u32 = 0xFFFF_FFFF;
 
 fn lays(rt: &impl Abort, number: u64, words: &mut [u32], expected: &[u32]) -> Result<(), Fail> {
     let count = lay_number(number, words)?;
-    assert_eq!(rt; &words[0..count], expected);
-    for word in &words[count..words.len()] {
-        assert_eq!(rt; *word, OTHER);
-    }
+    assert_eq!(rt; &words[..count], expected);
+    assert!(rt; words[count..].iter().all(|word| *word == OTHER));
     Ok(())
 }
 
@@ -49,15 +48,15 @@ fn counts_and_weights(rt: HostRuntime) -> Result<(), Fail> {
     for (number, squarings, multiplications) in [(7, 2, 2), (11, 2, 3), (23, 2, 4)] {
         let mut words = [OTHER; 20];
         let count = lay_number(number, &mut words)?;
-        let Ok(judgement) = judge(only_t, &words[0..count]) else {
-            return Err(Fail::new("a plan does not fit"));
+        let counts = Counts {
+            squarings,
+            multiplications,
         };
-        assert_eq!(rt; judgement.counts.squarings, squarings);
-        assert_eq!(rt; judgement.counts.multiplications, multiplications);
+        assert_eq!(rt; judge(only_t, &words[..count])?.counts, counts);
     }
     let mut words = [OTHER; 253];
     let count = lay_number(u64::MAX, &mut words)?;
-    let plan = &mut words[0..count];
+    let plan = &mut words[..count];
     assert_eq!(rt; weigh(only_t, plan, P, T).ok(), Some(u64::MAX));
     assert!(rt; turn(only_t, plan).is_ok());
     assert_eq!(rt; weigh(only_p, plan, T, P).ok(), Some(u64::MAX));

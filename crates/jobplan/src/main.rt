@@ -3,8 +3,9 @@
 
 use chain::{lay_number, weigh};
 use recoding::{Pair, divide, divide_once};
+use refusal::Refusal;
 use std::{env, io};
-use steps::{Register, RegisterSet, Step, judge, turn};
+use steps::{Counts, Register, RegisterSet, Step, judge, turn};
 
 // A number of 64 bits has no more.
 const MOST_STEPS: usize = 4 * 63 + 1;
@@ -12,10 +13,7 @@ const MOST_STEPS: usize = 4 * 63 + 1;
 // Every division, down to 1.
 fn show_divisions(rt: &impl Print, number: u64) -> io::Result<()> {
     let mut rest = number;
-    for _ in 0..63 {
-        let Some((pair, next)) = divide_once(rest) else {
-            return Ok(());
-        };
+    while let Some((pair, next)) = divide_once(rest) {
         let remainder = rest % 30;
         let base = pair.base();
         let digit = pair.digit();
@@ -30,16 +28,14 @@ fn show_divisions(rt: &impl Print, number: u64) -> io::Result<()> {
 fn show_pairs(rt: &impl Print, pairs: &[Pair]) -> io::Result<()> {
     print!(rt; "pairs as found:")?;
     for pair in pairs {
-        let base = pair.base();
-        let digit = pair.digit();
-        print!(rt; " ({base},{digit})")?;
+        print!(rt; " {pair}")?;
     }
     println!(rt; "")
 }
 
 fn show_steps(rt: &impl Print, words: &[u32]) -> io::Result<()> {
     for word in words {
-        match Step::decode(*word) {
+        match Step::try_from(*word) {
             Ok(step) => println!(rt; "  {word:08X}  {step}")?,
             Err(_) => println!(rt; "  {word:08X}")?,
         }
@@ -55,19 +51,22 @@ fn show_plan(rt: &impl Print, words: &[u32], from: Register, to: Register) -> io
     show_steps(rt, words)?;
     match judge(start, words) {
         Ok(judgement) => {
-            let squarings = judgement.counts.squarings;
-            let multiplications = judgement.counts.multiplications;
+            let Counts {
+                squarings,
+                multiplications,
+            } = judgement.counts;
             println!(rt; "squarings {squarings}, multiplications {multiplications}")?;
         }
-        Err(at) => show_refusal(rt, at.fault.number())?,
+        Err(at) => show_refusal(rt, at.fault)?,
     }
     match weigh(start, words, to, from) {
         Ok(weight) => println!(rt; "weight {weight}"),
-        Err(fault) => show_refusal(rt, fault.number()),
+        Err(fault) => show_refusal(rt, fault),
     }
 }
 
-fn show_refusal(rt: &impl Print, number: u32) -> io::Result<()> {
+fn show_refusal(rt: &impl Print, refusal: impl Refusal) -> io::Result<()> {
+    let number = refusal.number();
     println!(rt; "refused with {number}")
 }
 
@@ -78,7 +77,7 @@ fn show_both_ways(rt: &impl Print, plan: &mut [u32]) -> io::Result<()> {
     print!(rt; "turned ")?;
     match turn(RegisterSet::only(Register::T), plan) {
         Ok(_) => show_plan(rt, plan, Register::P, Register::T),
-        Err(at) => show_refusal(rt, at.fault.number()),
+        Err(at) => show_refusal(rt, at.fault),
     }
 }
 
@@ -95,22 +94,21 @@ fn show_job(rt: &impl Print, number: u64) -> io::Result<()> {
     show_pairs(rt, division.pairs())?;
     let mut memory = [0u32; MOST_STEPS];
     match lay_number(number, &mut memory) {
-        Ok(count) => show_both_ways(rt, &mut memory[0..count]),
-        Err(fault) => show_refusal(rt, fault.number()),
+        Ok(count) => show_both_ways(rt, &mut memory[..count]),
+        Err(fault) => show_refusal(rt, fault),
     }
 }
 
 fn main(rt: HostRuntime) -> io::Result<()> {
-    let mut shown: usize = 0;
-    for argument in env::args(&rt)?.skip(1) {
+    let mut arguments = env::args(&rt)?.skip(1).peekable();
+    if arguments.peek().is_none() {
+        return println!(rt; "usage: jobplan NUMBER.. (decimal, or hexadecimal after 0x)");
+    }
+    for argument in arguments {
         match numeral::parse(argument.as_str()) {
             Ok(number) => show_job(&rt, number)?,
             Err(fault) => println!(rt; "{argument}: {fault}")?,
         }
-        shown = shown.saturating_add(1);
-    }
-    if shown == 0 {
-        println!(rt; "usage: jobplan NUMBER.. (decimal, or hexadecimal after 0x)")?;
     }
     Ok(())
 }

@@ -3,8 +3,15 @@ use Rattle.std.specs.Prelude.{ℕ, ◌+◌, ◌-◌, ◌*◌, ◌^◌, Bool, fal
 use Rattle.std.specs.Option.{option_map, option_zip, option_flatten, ok_or}
 use Rattle.std.specs.Bool.{then_some}
 use Rattle.std.specs.Int.{is_in_range}
+use Rattle.numeral.specs.declared.base.Base.{Base}
+use Rattle.numeral.specs.declared.base.Base.TheVariants.{Decimal, Hexadecimal}
 use Rattle.numeral.specs.declared.fault.NumeralFault.{NumeralFault}
 use Rattle.numeral.specs.declared.fault.NumeralFault.TheVariants.{NotANumber, TooLarge}
+
+-- how many digits a base has
+abbrev pub radix_of : Base → ℕ
+radix_of Decimal = 10
+radix_of Hexadecimal = 16
 
 -- what a byte is worth: 0 to 9, and a to f of either case
 abbrev pub digit_of : ℕ → Option ℕ

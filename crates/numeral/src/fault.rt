@@ -4,6 +4,7 @@ ghost use Rattle.numeral.specs.Faults.{message};
 
 use std::fmt;
 
+/// Why a text is refused as a job number.
 #[derive(Clone, Copy, Debug, PartialEq, Eq)]
 pub enum NumeralFault {
     /// No digit, or a character that is no digit of the base.
@@ -16,11 +17,11 @@ impl fmt::Display for NumeralFault {
     ghost output = { λ x. Some (message x) };
 
     fn fmt<W: fmt::Write>(&self, f: &mut fmt::Formatter<W>) -> fmt::Result {
-        match self {
-            NumeralFault::NotANumber => f.write_str(
-                "not a number: decimal digits, or 0x and hexadecimal digits",
-            ),
-            NumeralFault::TooLarge => f.write_str("too large: a job number is below 2^64"),
-        }
+        f.write_str(match self {
+            NumeralFault::NotANumber => {
+                "not a number: decimal digits, or 0x and hexadecimal digits"
+            }
+            NumeralFault::TooLarge => "too large: a job number is below 2^64",
+        })
     }
 }

@@ -1,6 +1,7 @@
 // Job numbers as text.
 #![tactic(auto)]
 
+mod base;
 mod digits;
 mod fault;
 #[cfg(test)]

@@ -2,6 +2,7 @@
 ghost use Rattle.std.specs.Prelude.{◌≡◌};
 ghost use Rattle.numeral.specs.Numerals.{parsed};
 
+use super::base::Base;
 use super::digits::number;
 use super::fault::NumeralFault;
 
@@ -10,7 +11,7 @@ pub fn parse(text: &str) -> Result<u64, NumeralFault>
     ensures { result ≡ parsed text.now }
 {
     match text.strip_prefix("0x") {
-        Some(digits) => number(16, digits.as_bytes()),
-        None => number(10, text.as_bytes()),
+        Some(digits) => number(Base::Hexadecimal, digits.as_bytes()),
+        None => number(Base::Decimal, text.as_bytes()),
     }
 }

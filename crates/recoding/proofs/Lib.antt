@@ -1,5 +1,4 @@
 -- The lemmas of this crate's proofs.
 pub mod AnyTable
-pub mod Every
-pub mod Thirty
+pub mod Fit
 pub mod Turns

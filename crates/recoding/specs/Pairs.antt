@@ -1,5 +1,6 @@
 -- The base and the digit of each of the ten pairs, and what a list of pairs is worth. Assumes nothing.
-use Rattle.std.specs.Prelude.{◌≡◌, ℕ, ◌+◌, ◌*◌, List, [], ◌∷◌, ℤ, pos}
+use Rattle.std.specs.Prelude.{◌≡◌, ℕ, ◌+◌, ◌*◌, List, [], ◌∷◌, ◌++◌, codes, ℤ, pos}
+use Rattle.std.specs.Fmt.{decimal}
 use Rattle.recoding.specs.declared.pair.Pair.{Pair}
 use Rattle.recoding.specs.declared.pair.Pair.TheVariants.{TwoZero, TwoOne, ThreeZero, ThreeOne, ThreeTwo, FiveZero, FiveOne, FiveTwo, FiveThree, FiveFour}
 
@@ -35,3 +36,7 @@ HasParts p r d = (base_of p ≡ r) × (pos (digit_of p) ≡ d)
 abbrev pub worth : List Pair → ℕ
 worth [] = 1
 worth (p ∷ ps) = base_of p * worth ps + digit_of p
+
+-- a pair as text, its base before its digit
+abbrev pub pair_text : Pair → List ℕ
+pair_text p = codes "(" ++ decimal (base_of p) ++ codes "," ++ decimal (digit_of p) ++ codes ")"

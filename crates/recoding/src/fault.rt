@@ -1,9 +1,11 @@
 // Why a number or a pair is refused.
-ghost use Rattle.std.specs.Prelude.{◌≡◌, Some};
+ghost use Rattle.std.specs.Prelude.{Some};
 ghost use Rattle.recoding.specs.Faults.{fault_number, fault_text};
 
+use refusal::Refusal;
 use std::fmt;
 
+/// Why a number or a pair is refused.
 #[derive(Clone, Copy, Debug, PartialEq, Eq)]
 pub enum NumberFault {
     /// The job number is 0.
@@ -12,11 +14,10 @@ pub enum NumberFault {
     NotPair,
 }
 
-impl NumberFault {
-    /// The number that the logger shows.
-    pub fn number(self) -> u32
-        ensures { result ≡ fault_number self }
-    {
+impl Refusal for NumberFault {
+    ghost shown_as = { fault_number };
+
+    fn number(self) -> u32 {
         match self {
             NumberFault::Zero => 52,
             NumberFault::NotPair => 53,
@@ -28,9 +29,9 @@ impl fmt::Display for NumberFault {
     ghost output = { λ e. Some (fault_text e) };
 
     fn fmt<W: fmt::Write>(&self, f: &mut fmt::Formatter<W>) -> fmt::Result {
-        match self {
-            NumberFault::Zero => f.write_str("a job number is at least 1"),
-            NumberFault::NotPair => f.write_str("not one of the ten pairs"),
-        }
+        f.write_str(match self {
+            NumberFault::Zero => "a job number is at least 1",
+            NumberFault::NotPair => "not one of the ten pairs",
+        })
     }
 }

@@ -1,9 +1,10 @@
 // The ten pairs of a base and a digit.
-ghost use Rattle.std.specs.Prelude.{◌≡◌, pos, MatchResult};
-ghost use Rattle.recoding.specs.Pairs.{base_of, digit_of, HasParts};
+ghost use Rattle.std.specs.Prelude.{◌≡◌, Some, pos, MatchResult};
+ghost use Rattle.recoding.specs.Pairs.{base_of, digit_of, HasParts, pair_text};
 ghost use Rattle.recoding.specs.declared.fault.NumberFault.TheVariants.{NotPair};
 
 use super::fault::NumberFault;
+use std::fmt;
 
 /// A base of 2, 3 or 5 and a digit below it; a variant is named by both, the base first.
 #[derive(Clone, Copy, Debug, PartialEq, Eq)]
@@ -62,5 +63,14 @@ impl Pair {
             Pair::FiveThree => 3,
             Pair::FiveFour => 4,
         }
+    }
+}
+
+impl fmt::Display for Pair {
+    ghost output = { λ p. Some (pair_text p) };
+
+    fn fmt<W: fmt::Write>(&self, f: &mut fmt::Formatter<W>) -> fmt::Result {
+        let (base, digit) = (self.base(), self.digit());
+        write!(f, "({base},{digit})")
     }
 }

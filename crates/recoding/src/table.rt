@@ -38,18 +38,28 @@ const DIVISION_TABLE: [Pair; 30] = [
     Pair::FiveFour,
 ];
 
-// Apart from `division_table`, so that the constant is compared with the definition entry by entry; that the entries fit is a fact about the definition.
-fn entries() -> [Pair; 30]
-    ensures { result ≡ table_of_thirty }
-{
-    DIVISION_TABLE
-}
-
 /// The thirty entries, by remainder.
 pub fn division_table() -> [Pair; 30]
     ensures value { result ≡ table_of_thirty }
     ensures fits { Fitting result }
     ensures every_table { EveryFittingTableDivides }
 {
-    entries()
+    DIVISION_TABLE
+}
+
+// A table that fits for division. Its type says so, and no function has to ask for it.
+#[derive(Clone, Copy)]
+pub(crate) struct Table {
+    pub(crate) entries: [Pair; 30],
+    ghost fits: { Fitting entries },
+}
+
+impl Table {
+    pub(crate) fn in_use() -> Self
+        ensures { result.entries ≡ table_of_thirty }
+    {
+        Table {
+            entries: division_table(),
+        }
+    }
 }

@@ -1,6 +1,7 @@
 // Worked numbers, and what is refused.
 use super::divide;
 use super::pair::Pair;
+use refusal::Refusal;
 use std::process::Abort;
 use std::test::Fail;
 
@@ -12,13 +13,11 @@ fn divides_into(rt: &impl Abort, number: u64, expected: &[Pair]) -> Result<(), F
 
 // What the pairs stand for, from the last pair back; none past 64 bits.
 fn rebuilt(pairs: &[Pair]) -> Option<u64> {
-    let mut worth: u64 = 1;
-    for pair in pairs.iter().rev() {
-        worth = worth
+    pairs.iter().rev().try_fold(1u64, |worth, pair| {
+        worth
             .checked_mul(u64::from(pair.base()))?
-            .checked_add(pair.digit() as u64)?;
-    }
-    Some(worth)
+            .checked_add(pair.digit() as u64)
+    })
 }
 
 #[test]

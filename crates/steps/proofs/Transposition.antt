@@ -1,6 +1,5 @@
 -- A list of steps turned round has the table with rows and columns exchanged. Assumes nothing.
 use Rattle.std.proofs.Common.{◌≡◌, Bool, true, false, cond, List, [], ◌∷◌, ℤ, pos, ◌+ℤ◌, ◌*ℤ◌, neg_ℤ, sym, refl, ap, ◌∙◌, arith}
-use lib.IntN.{zero-*ℤ, *ℤ-zero, *ℤ_comm}
 use Rattle.std.proofs.lemmas.Int.{ints}
 use Rattle.steps.specs.declared.register.Register.{Register}
 use Rattle.steps.specs.declared.register.Register.TheVariants.{T, P, Q}
@@ -10,12 +9,12 @@ use Rattle.steps.specs.Registers.{three, at, put}
 use Rattle.steps.specs.Sets.{Full}
 use Rattle.steps.specs.Steps.{lawful, transposed, turned}
 use Rattle.steps.specs.Fullness.{Fits}
-use Rattle.steps.specs.Tables.{zeros, opening, table, entry, exchanged}
-use Rattle.steps.proofs.Ints.{add_mul, mul_add, mul_one, neg_swap}
-use Rattle.steps.proofs.ByRegister.{Apart, apart_back, below_apart, at_other, at_three}
+use Rattle.steps.specs.Tables.{opening, table, entry, exchanged}
+use Rattle.steps.proofs.Ints.{add_mul, mul_add, neg_swap}
+use Rattle.steps.proofs.ByRegister.{Apart, apart_back, below_apart, at_other}
 use Rattle.steps.proofs.Lists.{AllLawful, turned_cons}
 use Rattle.steps.proofs.Fullness.{fits_turned}
-use Rattle.steps.proofs.Columns.{Column, step_column, steps_column, steps_column_append, column, column_opening, entry_table, empty_rows}
+use Rattle.steps.proofs.Columns.{Column, step_column, steps_column, steps_column_append, column, entry_table, empty_rows}
 
 -- the sum of the products, register by register
 unfoldable pub pairing : Column → Column → ℤ
@@ -23,7 +22,7 @@ pairing u v = (u.t *ℤ v.t +ℤ u.p *ℤ v.p) +ℤ u.q *ℤ v.q
 
 pub pairing_comm : (u v : Column) → pairing u v ≡ pairing v u
 unfolding pairing
-pairing_comm u v = λ i. (*ℤ_comm u.t v.t i +ℤ *ℤ_comm u.p v.p i) +ℤ *ℤ_comm u.q v.q i
+pairing_comm u v = omega (arith, ints)
 
 -- one value of the second column changed, and two
 pairing_put : (u v : Column) (r : Register) (x : ℤ) → pairing u (put v r x) +ℤ at u r *ℤ at v r ≡ pairing u v +ℤ at u r *ℤ x
@@ -39,22 +38,18 @@ pairing_puts u v a b x y d =
 
 -- the same of the first column
 put_pairing : (u v : Column) (r : Register) (x : ℤ) → pairing (put u r x) v +ℤ at u r *ℤ at v r ≡ pairing u v +ℤ x *ℤ at v r
-unfolding pairing
-put_pairing u v T x = omega (arith, ints)
-put_pairing u v P x = omega (arith, ints)
-put_pairing u v Q x = omega (arith, ints)
+put_pairing u v r x = omega (arith, ints, pairing_put v u r x, pairing_comm (put u r x) v, pairing_comm u v)
 
 puts_pairing : (u v : Column) (a b : Register) (x y : ℤ) → Apart a b
     → pairing (put (put u a x) b y) v +ℤ (at u a *ℤ at v a +ℤ at u b *ℤ at v b) ≡ pairing u v +ℤ (x *ℤ at v a +ℤ y *ℤ at v b)
-puts_pairing u v a b x y d =
-    omega (arith, ints, put_pairing u v a x, put_pairing (put u a x) v b y, ap (λ z. z *ℤ at v b) (at_other u b a x (apart_back a b d)))
+puts_pairing u v a b x y d = omega (arith, ints, pairing_puts v u a b x y d, pairing_comm (put (put u a x) b y) v, pairing_comm u v)
 
 -- a step on one side of a pairing is its transpose on the other
 pub dual : (s : Step) → lawful s ≡ true → (u v : Column) → pairing u (step_column s v) ≡ pairing (step_column (transposed s) u) v
 dual (Copy a b) d u v =
-    omega (arith, ints, pairing_put u v b (at v a), puts_pairing u v a b (at u a +ℤ at u b) (pos 0) d, add_mul (at u a) (at u b) (at v a), zero-*ℤ (at v b))
+    omega (arith, ints, pairing_put u v b (at v a), puts_pairing u v a b (at u a +ℤ at u b) (pos 0) d, add_mul (at u a) (at u b) (at v a))
 dual (Move a b) d u v =
-    omega (arith, ints, pairing_puts u v b a (at v a) (pos 0) (apart_back a b d), puts_pairing u v a b (at u b) (pos 0) d, *ℤ-zero (at u a), zero-*ℤ (at v b))
+    omega (arith, ints, pairing_puts u v b a (at v a) (pos 0) (apart_back a b d), puts_pairing u v a b (at u b) (pos 0) d)
 dual (Swap a b) d u v =
     let k = apart_back a b (below_apart a b d) in
     omega (arith, ints, pairing_puts u v b a (at v a) (at v b) k, puts_pairing u v b a (at u a) (at u b) k)
@@ -64,7 +59,7 @@ dual (Square a) d u v =
 dual (Multiply a b) d u v =
     omega (arith, ints, pairing_put u v a (at v a +ℤ at v b), put_pairing u v b (at u b +ℤ at u a), mul_add (at u a) (at v a) (at v b), add_mul (at u b) (at u a) (at v b))
 dual (Gather a b) d u v =
-    omega (arith, ints, pairing_puts u v a b (at v a +ℤ at v b) (pos 0) d, put_pairing u v b (at u a), mul_add (at u a) (at v a) (at v b), *ℤ-zero (at u b))
+    omega (arith, ints, pairing_puts u v a b (at v a +ℤ at v b) (pos 0) d, put_pairing u v b (at u a), mul_add (at u a) (at v a) (at v b))
 
 pub dual_all : (ss : List Step) → AllLawful ss → (u v : Column) → pairing u (steps_column ss v) ≡ pairing (steps_column (turned ss) u) v
 dual_all [] d u v = refl
@@ -74,18 +69,13 @@ dual_all (s ∷ ss) (d, ds) u v =
 
 -- paired with a column of the table of no step, a column that is 0 outside the set gives its entry
 one_if : (b : Bool) (x : ℤ) → (b ≡ false → x ≡ pos 0) → x *ℤ cond b (pos 1) (pos 0) ≡ x
-one_if true x h = mul_one x
-one_if false x h = *ℤ-zero x ∙ sym (h refl)
-
-pairing_zeros : (u : Column) → pairing u zeros ≡ pos 0
-unfolding pairing
-pairing_zeros u = omega (arith, ints, *ℤ-zero u.t, *ℤ-zero u.p, *ℤ-zero u.q)
+one_if b x h = grind (arith, ints)
 
 pairing_opening : (s : Full) (c : Register) (u : Column) → (at s c ≡ false → at u c ≡ pos 0) → pairing u (column (opening s) c) ≡ at u c
-pairing_opening s c u h =
-    let x = cond (at s c) (pos 1) (pos 0) in
-    let none : at u c *ℤ at zeros c ≡ pos 0 = ap (λ z. at u c *ℤ z) (at_three (pos 0) c) ∙ *ℤ-zero (at u c) in
-    ap (pairing u) (column_opening s c) ∙ omega (arith, ints, pairing_put u zeros c x, pairing_zeros u, one_if (at s c) (at u c) h)
+unfolding pairing
+pairing_opening s T u h = omega (arith, ints, one_if s.t u.t h)
+pairing_opening s P u h = omega (arith, ints, one_if s.p u.p h)
+pairing_opening s Q u h = omega (arith, ints, one_if s.q u.q h)
 
 -- an entry of the turned list's table
 entry_turned : (ss : List Step) (s f : Full) → AllLawful ss → Fits s ss f → (r c : Register) → entry (table f (turned ss)) c r ≡ entry (table s ss) r c

@@ -1,6 +1,6 @@
 -- A walk over words: one more word, and what it tells of the column and of entries that are too large. Assumes nothing.
-use Rattle.std.proofs.Common.{◌≡◌, ℕ, zero, suc, ◌+◌, ◌^◌, ◌<◌, ◌≤◌, false, List, [], ◌∷◌, ◌++◌, map, length, get_or, take, pos, Some, None, Ok, Err, Option, Result, sym, refl, ap, ◌∙◌, subst, le_of_suc-le-suc, not-suc-le-zero, arith, MatchOption}
-use Rattle.std.proofs.lemmas.List.{take_more}
+use Rattle.std.proofs.Common.{◌≡◌, ℕ, zero, suc, ◌+◌, ◌^◌, ◌<◌, ◌≤◌, false, List, [], ◌∷◌, ◌++◌, map, length, get_or, take, pos, Some, None, Ok, Err, Option, Result, sym, refl, ap, ◌∙◌, arith}
+use Rattle.std.proofs.lemmas.List.{get_or-map, take_more}
 use Rattle.std.proofs.lemmas.Int.{ints}
 use Rattle.std.proofs.lemmas.Bool.{or_parts}
 use Rattle.std.specs.Option.{ok_or}
@@ -16,24 +16,21 @@ use Rattle.steps.specs.Sets.{Full}
 use Rattle.steps.specs.Steps.{is_invert, inverts}
 use Rattle.steps.specs.Words.{decoded}
 use Rattle.steps.specs.Tables.{table, entry}
-use Rattle.steps.specs.Columns.{opened, grown, peak}
+use Rattle.steps.specs.Columns.{opened, grown, peak, Grows}
 use Rattle.steps.specs.Plans.{Plan, Walked, Overflows}
 use Rattle.steps.proofs.Columns.{within}
 use Rattle.steps.proofs.Growth.{grown_all, grown_column, at_peak, peak_somewhere, peak_last}
-use Rattle.steps.proofs.Plans.{oks, heads, no_word, plan_lawful, plan_length}
+use Rattle.steps.proofs.Plans.{oks, plan_lawful, plan_length}
 
 -- what a step made of the entries, or that one is too large
-abbrev Grows : Step → Registers ℕ → Option (Registers ℕ) → Type 0
-Grows x v o = MatchOption o (2 ^ 64 ≤ peak (grown x v)) (λ u. u ≡ grown x v)
-
 pub grows_some : (o : Option (Registers ℕ)) (w : Registers ℕ) → o ≡ Some w → (x : Step) (v : Registers ℕ) → Grows x v o → w ≡ grown x v
-grows_some o w e x v h = subst (Grows x v) e h
+grows_some o w e x v h = rw e at h
 
 pub grows_none : (o : Option (Registers ℕ)) → o ≡ None → (x : Step) (v : Registers ℕ) → Grows x v o → 2 ^ 64 ≤ peak (grown x v)
-grows_none o e x v h = subst (Grows x v) e h
+grows_none o e x v h = rw e at h
 
 pub overflow_is : (o : Option (Registers ℕ)) (e : WalkFault) → o ≡ None → ◌≡◌ {A = Result (Registers ℕ) WalkFault} (Err e) (ok_or o walk.Overflow) → e ≡ walk.Overflow
-overflow_is o e none h = let f : ◌≡◌ {A = Result (Registers ℕ) WalkFault} (Err e) (Err walk.Overflow) = h ∙ ap (λ p. ok_or p walk.Overflow) none in cc
+overflow_is o e none h = grind arith
 
 -- the step at a place; past the end, where no word lies, some step
 abbrev pub no_step : Step
@@ -43,10 +40,8 @@ abbrev pub step_at : List Step → ℕ → Step
 step_at ss i = get_or ss i no_step
 
 pub decoded_at : (ws : List ℕ) (ss : List Step) (i : ℕ) → map decoded ws ≡ oks ss → i < length ws → decoded (get_or ws i 0) ≡ Ok (step_at ss i)
-decoded_at [] ss i e h = absurd (not-suc-le-zero h)
-decoded_at (w ∷ ws) [] i e h = no_word (sym e)
-decoded_at (w ∷ ws) (s ∷ ss) zero e h = (heads e).0
-decoded_at (w ∷ ws) (s ∷ ss) (suc i) e h = decoded_at ws ss i (heads e).1 (le_of_suc-le-suc h)
+decoded_at ws ss i e h =
+    sym (get_or-map decoded ws i 0 (Ok no_step) h) ∙ ap (λ l. get_or l i (Ok no_step)) e ∙ get_or-map Ok ss i no_step (Ok no_step) (rw (plan_length ws ss e) h)
 
 grown_append : (ss rs : List Step) (v : Registers ℕ) → grown_all (ss ++ rs) v ≡ grown_all rs (grown_all ss v)
 grown_append [] rs v = refl
@@ -69,7 +64,7 @@ module _ (ws : List ℕ) (ss : List Step) (reads : map decoded ws ≡ oks ss) (i
 
   -- the largest of them, where one is too large
   pub walk_over : ((x : Step) → decoded (get_or ws i 0) ≡ Ok x → 2 ^ 64 ≤ peak (grown x v)) → 2 ^ 64 ≤ peak (grown_all (take (i + 1) ss) start)
-  walk_over h = subst (λ u. 2 ^ 64 ≤ peak u) next (h (step_at ss i) (decoded_at ws ss i reads inside))
+  walk_over h = rw next at (h (step_at ss i) (decoded_at ws ss i reads inside))
 
 module _ (s f : Full) (c : Register) (ws : List ℕ) (ss : List Step) (plan : Plan s ws ss f) (plain : inverts ss ≡ false) where
   -- the entry after k steps is at most the largest at the end
@@ -77,7 +72,7 @@ module _ (s f : Full) (c : Register) (ws : List ℕ) (ss : List Step) (plan : Pl
   prefix k r = grown_column (take k ss) s c r (inverts_take k ss plain)
 
   rises : (k : ℕ) → peak (grown_all (take k ss) (opened s c)) ≤ peak (grown_all ss (opened s c))
-  rises k = peak_last ss s f c k (plan_lawful ws ss plan.words) plan.fits plain
+  rises k = peak_last ss s f c k (plan_lawful ws ss plan.words) plan.fits
 
   pub walked : (v : Registers ℕ) → v ≡ grown_all ss (opened s c) → peak v < 2 ^ 64 → Walked s c ws v
   walked v e low =

@@ -1,5 +1,5 @@
 -- One column of a table as natural numbers, which it holds as long as no step inverts. Assumes nothing.
-use Rattle.std.specs.Prelude.{ℕ, ◌+◌, max, cond}
+use Rattle.std.specs.Prelude.{◌≡◌, ℕ, ◌+◌, ◌^◌, ◌≤◌, max, cond, Option, MatchOption}
 use Rattle.steps.specs.declared.register.Register.{Register}
 use Rattle.steps.specs.declared.register.Registers.{Registers}
 use Rattle.steps.specs.declared.step.Step.{Step}
@@ -24,3 +24,7 @@ grown (Gather a b) v = put (put v a (at v a + at v b)) b 0
 -- the largest entry of a column
 abbrev pub peak : Registers ℕ → ℕ
 peak v = max (max v.t v.p) v.q
+
+-- what a step makes of a column, or none where an entry is then 2^64 or more
+abbrev pub Grows : Step → Registers ℕ → Option (Registers ℕ) → Type 0
+Grows s v o = MatchOption o (2 ^ 64 ≤ peak (grown s v)) (λ u. u ≡ grown s v)

@@ -8,12 +8,11 @@ use Rattle.steps.specs.declared.fault.WalkFault.{WalkFault}
 use Rattle.steps.specs.declared.fault.WalkFault.TheVariants as walk
 use Rattle.steps.specs.declared.fault.WordFault.{WordFault}
 use Rattle.steps.specs.declared.judgement.Judgement.{Judgement}
-use Rattle.steps.specs.declared.judgement.Reversal.{Reversal}
 use Rattle.steps.specs.declared.register.Register.{Register}
 use Rattle.steps.specs.declared.register.Registers.{Registers}
 use Rattle.steps.specs.declared.step.Step.{Step}
 use Rattle.steps.specs.Registers.{at}
-use Rattle.steps.specs.Sets.{Full, members, size}
+use Rattle.steps.specs.Sets.{Full, size}
 use Rattle.steps.specs.Steps.{squarings, multiplications, counts_of, inverts, transposed, turned}
 use Rattle.steps.specs.Words.{encoded, decoded}
 use Rattle.steps.specs.Fullness.{after, Fits}
@@ -60,10 +59,11 @@ pub record Within (s f : Full) (t : Table) : Type 0 where
 
 -- judged to be a plan
 pub record Accepted (s : Full) (ws : List ℕ) (j : Judgement) : Type 0 where
+  pub begins : j.start ≡ s
   pub steps : List Step
-  pub plan : Plan s ws steps (members j.full)
+  pub plan : Plan s ws steps j.full
   pub counted : j.counts ≡ counts_of steps
-  pub outside : Within s (members j.full) (table s steps)
+  pub outside : Within s j.full (table s steps)
 
 -- refused: the words before the place are a plan, and the word there is no step that fits behind it
 pub record Refused (s : Full) (ws : List ℕ) (e : StepAt) : Type 0 where
@@ -78,18 +78,19 @@ Judges s ws (Ok j) = Accepted s ws j
 Judges s ws (Err e) = Refused s ws e
 
 -- turned: the plan fits back, its table has rows and columns exchanged, and turned again it has the words that were given
-pub record TurnedRound (s : Full) (was is : List ℕ) (r : Reversal) : Type 0 where
+pub record TurnedRound (s : Full) (was is : List ℕ) (r : Judgement) : Type 0 where
   pub steps : List Step
-  pub plan : Plan s was steps (members r.start)
+  pub plan : Plan s was steps r.start
   pub written : is ≡ map encoded (turned steps)
-  pub back : Plan (members r.start) is (turned steps) s
-  pub table_exchanged : table (members r.start) (turned steps) ≡ exchanged (table s steps)
+  pub back : Plan r.start is (turned steps) s
+  pub ends : r.full ≡ s
+  pub table_exchanged : table r.start (turned steps) ≡ exchanged (table s steps)
   pub counted : r.counts ≡ counts_of (turned steps)
   pub squarings_stay : squarings (turned steps) ≡ squarings steps
-  pub multiplications_grow : multiplications (turned steps) + size s ≡ multiplications steps + size (members r.start)
+  pub multiplications_grow : multiplications (turned steps) + size s ≡ multiplications steps + size r.start
   pub turned_again : map encoded (turned (turned steps)) ≡ was
 
-abbrev pub Turns : Full → List ℕ → List ℕ → Result Reversal StepAt → Type 0
+abbrev pub Turns : Full → List ℕ → List ℕ → Result Judgement StepAt → Type 0
 Turns s was is (Ok r) = TurnedRound s was is r
 Turns s was is (Err e) = (is ≡ was) × Refused s was e
 

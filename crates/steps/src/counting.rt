@@ -10,19 +10,14 @@ fn count_word(word: u32) -> Counts
     ensures value { result ≡ counts_of (steps_in (word ∷ [])) }
     ensures bound { (result.squarings ≤ 1) × (result.multiplications ≤ 1) }
 {
-    match Step::decode(word) {
-        Ok(Step::Square(_)) => Counts {
-            squarings: 1,
-            multiplications: 0,
-        },
-        Ok(Step::Multiply { .. } | Step::Gather { .. }) => Counts {
-            squarings: 0,
-            multiplications: 1,
-        },
-        _ => Counts {
-            squarings: 0,
-            multiplications: 0,
-        },
+    let (squarings, multiplications) = match Step::try_from(word) {
+        Ok(Step::Square(_)) => (1, 0),
+        Ok(Step::Multiply { .. } | Step::Gather { .. }) => (0, 1),
+        _ => (0, 0),
+    };
+    Counts {
+        squarings,
+        multiplications,
     }
 }
 

@@ -1,6 +1,5 @@
 // What a step needs of the full registers and what it leaves full.
-ghost use Rattle.std.specs.Prelude.{◌≡◌, Ok, Err, MatchResult};
-ghost use Rattle.steps.specs.Sets.{members};
+ghost use Rattle.std.specs.Prelude.{◌≡◌};
 ghost use Rattle.steps.specs.Fullness.{after};
 
 use super::fault::RegisterFault;
@@ -10,7 +9,7 @@ use super::step::Step;
 impl Step {
     /// The full registers after the step, or why they do not allow it: a register that has to be full is looked at first.
     pub fn apply(self, full: RegisterSet) -> Result<RegisterSet, RegisterFault>
-        ensures { MatchResult result (λ s. after self (members full) ≡ Ok (members s)) (λ e. after self (members full) ≡ Err e) }
+        ensures { result ≡ after self full }
     {
         let (a, b) = self.registers();
         if !full.contains(a) {

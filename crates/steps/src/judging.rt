@@ -1,6 +1,5 @@
 // Step words judged one after the other, from a start set.
-ghost use Rattle.std.specs.Prelude.{◌≡◌, Ok, Err, MatchResult};
-ghost use Rattle.steps.specs.Sets.{members};
+ghost use Rattle.std.specs.Prelude.{◌≡◌};
 ghost use Rattle.steps.specs.Plans.{stepped, Judges};
 
 use super::counting::count;
@@ -10,33 +9,23 @@ use super::register_set::RegisterSet;
 use super::step::Step;
 
 // The full registers after the step of a word.
-fn step_word(full: RegisterSet, word: u32) -> Result<RegisterSet, StepFault>
-    ensures { MatchResult result (λ s. stepped (members full) word ≡ Ok (members s)) (λ e. stepped (members full) word ≡ Err e) }
+pub(crate) fn step_word(full: RegisterSet, word: u32) -> Result<RegisterSet, StepFault>
+    ensures { result ≡ stepped full word }
 {
-    let step = Step::decode(word)?;
-    let after = step.apply(full)?;
-    Ok(after)
+    Ok(Step::try_from(word)?.apply(full)?)
 }
 
-// The same, with the place of the word at a fault.
-fn step_word_at(full: RegisterSet, word: u32, place: usize) -> Result<RegisterSet, StepAt>
-    ensures { MatchResult result (λ s. stepped (members full) word ≡ Ok (members s)) (λ e. (e.place ≡ place) × (stepped (members full) word ≡ Err e.fault)) }
-{
-    match step_word(full, word) {
-        Ok(after) => Ok(after),
-        Err(fault) => Err(StepAt { place, fault }),
-    }
-}
-
-/// Whether the words are steps that fit from the start set: what they leave full and their counts, or the first fault.
+/// Whether the words are steps that fit from the start set: this set, what they leave full and their counts, or the
+/// first fault.
 pub fn judge(start: RegisterSet, words: &[u32]) -> Result<Judgement, StepAt>
-    ensures { Judges (members start) words.now result }
+    ensures { Judges start words.now result }
 {
     let mut full = start;
     for (place, word) in words.iter().enumerate() {
-        full = step_word_at(full, *word, place)?;
+        full = step_word(full, *word).map_err(|fault| StepAt { place, fault })?;
     }
     Ok(Judgement {
+        start,
         full,
         counts: count(words),
     })

@@ -8,7 +8,6 @@ mod judgement;
 mod judging;
 mod register;
 mod register_set;
-mod sets;
 mod step;
 #[cfg(test)]
 mod tests;
@@ -18,8 +17,8 @@ mod walking;
 mod word;
 
 pub use counting::count;
-pub use fault::{RegisterFault, StepAt, StepFault, WalkFault, WordFault};
-pub use judgement::{Judgement, Reversal};
+pub use fault::{NotASet, RegisterFault, StepAt, StepFault, WalkFault, WordFault};
+pub use judgement::Judgement;
 pub use judging::judge;
 pub use register::{Register, Registers};
 pub use register_set::RegisterSet;

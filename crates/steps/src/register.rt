@@ -1,10 +1,9 @@
 // The three registers, and three values, one for each.
 ghost use Rattle.std.specs.Prelude.{◌≡◌};
-ghost use Rattle.steps.specs.Registers.{number_of, at, put};
-ghost use Rattle.steps.specs.Words.{register_numbered};
+ghost use Rattle.steps.specs.Registers.{at, put};
 
 /// One of the three registers.
-#[derive(Clone, Copy)]
+#[derive(Clone, Copy, Debug, PartialEq, Eq, PartialOrd, Ord)]
 pub enum Register {
     T,
     P,
@@ -12,36 +11,11 @@ pub enum Register {
 }
 
 /// A value for each register.
-#[derive(Clone, Copy)]
+#[derive(Clone, Copy, Debug, Default, PartialEq, Eq)]
 pub struct Registers<V> {
     pub t: V,
     pub p: V,
     pub q: V,
-}
-
-impl Register {
-    /// The register of a number in a step word.
-    pub fn from_number(number: u32) -> Option<Register>
-        ensures { result ≡ register_numbered number }
-    {
-        match number {
-            0 => Some(Register::T),
-            1 => Some(Register::P),
-            2 => Some(Register::Q),
-            _ => None,
-        }
-    }
-
-    /// The register's number in a step word.
-    pub fn number(self) -> u32
-        ensures { result ≡ number_of self }
-    {
-        match self {
-            Register::T => 0,
-            Register::P => 1,
-            Register::Q => 2,
-        }
-    }
 }
 
 impl<V: Copy> Registers<V> {

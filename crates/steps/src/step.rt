@@ -5,7 +5,7 @@ ghost use Rattle.steps.specs.Steps.{kind_of, first_register, second_register, st
 use super::register::Register;
 
 /// What a step does.
-#[derive(Clone, Copy)]
+#[derive(Clone, Copy, Debug, PartialEq, Eq)]
 pub enum Kind {
     Copy,
     Move,
@@ -17,7 +17,7 @@ pub enum Kind {
 }
 
 /// A kind with its registers.
-#[derive(Clone, Copy)]
+#[derive(Clone, Copy, Debug, PartialEq, Eq)]
 pub enum Step {
     /// `to`, which is empty, gets the value of `from`.
     Copy { from: Register, to: Register },
@@ -36,7 +36,7 @@ pub enum Step {
 }
 
 /// How many steps square and how many multiply: a gather is a multiplication too.
-#[derive(Clone, Copy)]
+#[derive(Clone, Copy, Debug, PartialEq, Eq)]
 pub struct Counts {
     pub squarings: usize,
     pub multiplications: usize,
@@ -47,19 +47,19 @@ impl Step {
     pub fn new(kind: Kind, a: Register, b: Register) -> Option<Step>
         ensures { result ≡ (if allowed kind a b then Some (step_of kind a b) else None) }
     {
-        let (x, y) = (a.number(), b.number());
         match kind {
-            Kind::Copy if x != y => Some(Step::Copy { from: a, to: b }),
-            Kind::Move if x != y => Some(Step::Move { from: a, to: b }),
-            Kind::Swap if x < y => Some(Step::Swap { low: a, high: b }),
-            Kind::Invert if x == y => Some(Step::Invert(a)),
-            Kind::Square if x == y => Some(Step::Square(a)),
-            Kind::Multiply if x != y => Some(Step::Multiply { into: a, by: b }),
-            Kind::Gather if x != y => Some(Step::Gather { into: a, from: b }),
+            Kind::Copy if a != b => Some(Step::Copy { from: a, to: b }),
+            Kind::Move if a != b => Some(Step::Move { from: a, to: b }),
+            Kind::Swap if a < b => Some(Step::Swap { low: a, high: b }),
+            Kind::Invert if a == b => Some(Step::Invert(a)),
+            Kind::Square if a == b => Some(Step::Square(a)),
+            Kind::Multiply if a != b => Some(Step::Multiply { into: a, by: b }),
+            Kind::Gather if a != b => Some(Step::Gather { into: a, from: b }),
             _ => None,
         }
     }
 
+    /// The kind.
     pub fn kind(self) -> Kind
         ensures { result ≡ kind_of self }
     {

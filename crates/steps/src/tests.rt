@@ -1,35 +1,12 @@
 // Worked words, plans and columns.
+use super::judgement::Judgement;
+use super::judging::step_word;
 use super::register::Register;
 use super::register_set::RegisterSet;
-use super::step::{Counts, Step};
+use super::step::Counts;
 use super::{judge, turn, walk};
-use std::process::Abort;
+use refusal::Refusal;
 use std::test::Fail;
-
-fn set(bits: u32) -> Result<RegisterSet, Fail> {
-    match RegisterSet::from_bits(bits) {
-        Some(set) => Ok(set),
-        None => Err(Fail::new("no set")),
-    }
-}
-
-fn check_counts(rt: &impl Abort, counts: Counts, squarings: usize, multiplications: usize) {
-    assert_eq!(rt; counts.squarings, squarings);
-    assert_eq!(rt; counts.multiplications, multiplications);
-}
-
-// The number of the fault of a word that is no step, or whose step the full registers do not allow.
-fn fault_number(word: u32, bits: u32) -> Result<Option<u32>, Fail> {
-    let full = set(bits)?;
-    let step = match Step::decode(word) {
-        Ok(step) => step,
-        Err(fault) => return Ok(Some(fault.number())),
-    };
-    match step.apply(full) {
-        Ok(_) => Ok(None),
-        Err(fault) => Ok(Some(fault.number())),
-    }
-}
 
 #[test]
 fn words(rt: HostRuntime) -> Result<(), Fail> {
@@ -53,14 +30,15 @@ fn words(rt: HostRuntime) -> Result<(), Fail> {
         (0x1100_0000, 3, Some(22)),
     ];
     for (word, bits, expected) in cases {
-        assert_eq!(rt; fault_number(word, bits)?, expected, "{}", word);
+        let fault = step_word(RegisterSet::try_from(bits)?, word).err();
+        assert_eq!(rt; fault.map(|fault| fault.number()), expected, "{}", word);
     }
     Ok(())
 }
 
 #[test]
 fn plans(rt: HostRuntime) -> Result<(), Fail> {
-    let (t, p) = (set(1)?, set(2)?);
+    let (t, p) = (RegisterSet::try_from(1)?, RegisterSet::try_from(2)?);
     let mut words = [
         0x1100_0000,
         0x1600_0000,
@@ -79,16 +57,30 @@ fn plans(rt: HostRuntime) -> Result<(), Fail> {
         0x7600_0000,
         0x7100_0000,
     ];
-    let judgement = judge(t, &words)?;
-    assert_eq!(rt; judgement.full.bits(), 2);
-    check_counts(&rt, judgement.counts, 3, 2);
-    let reversal = turn(t, &mut words)?;
+    let counts = Counts {
+        squarings: 3,
+        multiplications: 2,
+    };
+    let from_t_to_p = Judgement {
+        start: t,
+        full: p,
+        counts,
+    };
+    let from_p_to_t = Judgement {
+        start: p,
+        full: t,
+        counts,
+    };
+    assert_eq!(rt; judge(t, &words)?, from_t_to_p);
+    assert_eq!(rt; turn(t, &mut words)?, from_p_to_t);
     assert_eq!(rt; words, turned);
-    assert_eq!(rt; reversal.start.bits(), 2);
-    check_counts(&rt, reversal.counts, 3, 2);
     let open = turn(t, &mut [0x1100_0000])?;
-    assert_eq!(rt; open.start.bits(), 3);
-    check_counts(&rt, open.counts, 0, 1);
+    let open_counts = Counts {
+        squarings: 0,
+        multiplications: 1,
+    };
+    assert_eq!(rt; u32::from(open.start), 3);
+    assert_eq!(rt; open.counts, open_counts);
     let squarings = [0x5500_0000; 64];
     let entries = walk(p, Register::P, &squarings[..63])?;
     assert_eq!(rt; entries.get(Register::P), 1 << 63);

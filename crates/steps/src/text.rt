@@ -10,11 +10,11 @@ impl fmt::Display for Register {
     ghost output = { λ r. Some (register_text r) };
 
     fn fmt<W: fmt::Write>(&self, f: &mut fmt::Formatter<W>) -> fmt::Result {
-        match self {
-            Register::T => write!(f, "T"),
-            Register::P => write!(f, "P"),
-            Register::Q => write!(f, "Q"),
-        }
+        f.write_str(match self {
+            Register::T => "T",
+            Register::P => "P",
+            Register::Q => "Q",
+        })
     }
 }
 

@@ -1,61 +1,45 @@
-use Rattle.std.proofs.Common.{◌≡◌, ◌-◌, ◌≤◌, [], ◌∷◌, ◌++◌, map, length, take, drop, ap, ◌∙◌, subst, arith}
-use Rattle.std.proofs.lemmas.List.{take_all}
+use Rattle.std.proofs.Common.{◌≡◌, ◌+◌, rules, arith, length, reverse, [], ◌∷◌}
+use Rattle.std.proofs.lemmas.Iterator.{YieldsList-from_slice, YieldsList-from_zip}
+use Rattle.std.proofs.lemmas.Iterator.Adapters.{YieldsList-from_flat_map, YieldsList-from_rev_slice}
+use Rattle.std.proofs.lemmas.Iterator.Consumers.{YieldsList-at, YieldsList-from_chain, YieldsList-turn, YieldsList-end}
 use Rattle.steps.specs.declared.register.Register.TheVariants.{T, P}
 use Rattle.steps.specs.declared.step.Step.TheVariants.{Copy}
-use Rattle.steps.specs.Words.{encoded}
-use Rattle.chain.specs.Chains.{pairs_steps, number_steps}
-use Rattle.chain.proofs.Releasing.{length_released}
-use Rattle.chain.proofs.Memory.{Suffix, suffix_none, suffix_more, suffix_all, pairs_next, room_left}
+use Rattle.chain.specs.Chains.{pair_steps}
+use Rattle.chain.proofs.Memory.{none_laid, one_laid, all_laid, placed, places_from_rev, yielded_steps}
 use Rattle.chain.proofs.laying.lay_pairs.Goals as goal
-use Rattle.chain.proofs.laying.lay_pairs.Goals.{After-steps_of_pair-steps, After-loop-pair}
+use Rattle.chain.proofs.laying.lay_pairs.Goals.{In-Some}
 
-pub loop-pair-init : goal.loop-pair-init
-loop-pair-init c = suffix_none c.args.words.now c.args.count
+pub loop-place-init : goal.loop-place-init
+loop-place-init c =
+    let places = YieldsList-at c.zip-place-items.ensures.first (places_from_rev _ c.rev.ensures.source) in (
+      search rules,
+      search rules,
+      YieldsList-at c.into_iter-place-iterator.ensures.into_iter_gives
+          (YieldsList-from_zip places
+          (YieldsList-from_chain
+          (YieldsList-from_flat_map _ _ _ _ (λ p. reverse (pair_steps p)) _ (λ x u q k. (search rules, λ j b. YieldsList-from_rev_slice (pair_steps x.now) (search rules))) (YieldsList-from_slice c.args.pairs.now (cc)) (cc) (cc) (cc) (cc))
+          (YieldsList-from_slice (Copy T P ∷ []) (cc)) (cc) (cc))),
+      none_laid c.args.words.now,
+    )
 
-room : (c : After-steps_of_pair-steps) → length c.steps_of_pair-steps.result.now ≤ c.loop-pair.end
-room c =
-    let fits = room_left c.args.pairs.now c.loop-pair.pair-index c.loop-pair-test.true c.loop-pair.end (c.loop-pair.invariant.placed ∙ c.requires.counted) in
-    omega (arith, ap length c.steps_of_pair-steps.ensures.listed)
+-- the place of a turn, by the steps that were yielded before
+here : (c : In-Some) → c.in-Some.place + (length (yielded_steps c.loop-place.yielded) + 1) ≡ length c.args.words.now
+here c = placed c.loop-place.yielded _ _ _ _ (YieldsList-turn c.loop-place.invariant.2 _ _ c.loop-place.yielded_by _ _ _ c.in-Some.is c.next.ensures.steps)
 
-pub lay_before-reads-requires : goal.lay_before-reads-requires
-lay_before-reads-requires c =
-    record { room = room (goal.at.lay_before-reads-requires c).After-steps_of_pair-steps; within = omega (arith, c.loop-pair.invariant.placed, c.loop-pair.auto.words, c.requires.within) }
+pub offset_bounds-words-place : goal.offset_bounds-words-place
+offset_bounds-words-place c = let at = here (goal.at.offset_bounds-words-place c).In-Some in omega arith
 
-pub overflow_sub-end : goal.overflow_sub-end
-overflow_sub-end c = room (goal.at.overflow_sub-end c).After-steps_of_pair-steps
+pub bounds-words-place : goal.bounds-words-place
+bounds-words-place c = let at = here (goal.at.bounds-words-place c).In-Some in omega arith
 
-pub loop-pair-preserved : goal.loop-pair-preserved
-loop-pair-preserved c =
-    let ps = c.args.pairs.now in
-    let i = c.loop-pair.pair-index in
-    let was = c.args.words.now in
-    let steps = c.steps_of_pair-steps.result.now in
-    let more = suffix_more was c.args.count (pairs_steps (take i ps)) c.loop-pair.end c.loop-pair.reads c.loop-pair.words c.requires.within c.loop-pair.invariant
-    steps c.lay_before-reads.result c.lay_before-reads.new.words (room (goal.at.loop-pair-preserved c).After-steps_of_pair-steps) c.lay_before-reads.ensures.reads c.lay_before-reads.ensures.laid in
-    subst (λ l. Suffix was c.args.count l (c.loop-pair.end - length steps) c.lay_before-reads.result c.lay_before-reads.new.words)
-    (ap (λ l. l ++ pairs_steps (take i ps)) c.steps_of_pair-steps.ensures.listed ∙ pairs_next ps i c.loop-pair-test.true) more
-
--- the pairs are laid, and one word is left before them
-one_left : (c : After-loop-pair) → c.loop-pair.end ≡ 1
-one_left c =
-    let ps = c.args.pairs.now in
-    let all = ap (λ l. length (pairs_steps l)) (take_all c.loop-pair.pair-index ps c.loop-pair-test.false) in
-    omega (arith, c.loop-pair.invariant.placed, c.requires.counted, length_released (Copy T P ∷ pairs_steps ps))
-
-pub lay_before-requires : goal.lay_before-requires
-lay_before-requires c =
-    let one = one_left (goal.at.lay_before-requires c).After-loop-pair in
-    record { room = omega arith; within = omega (arith, c.loop-pair.invariant.placed, c.loop-pair.auto.words, c.requires.within) }
+pub loop-place-preserved : goal.loop-place-preserved
+loop-place-preserved c =
+    let (_, _, yields, laid) = c.loop-place.invariant in
+    let at = here (goal.at.loop-place-preserved c).In-Some in
+    (search rules, search rules, yields, one_laid c.loop-place.yielded _ _ laid (c.in-Some.place, c.in-Some.step) _ _ (omega arith) c.reads_t-reads.ensures (cc))
 
 pub returns : goal.returns
 returns c =
-    let ps = c.args.pairs.now in
-    let was = c.args.words.now in
-    let count = c.args.count in
-    let laid = pairs_steps (take c.loop-pair.pair-index ps) in
-    let one = one_left (goal.at.returns c).After-loop-pair in
-    let more = suffix_more was count laid c.loop-pair.end c.loop-pair.reads c.loop-pair.words c.requires.within c.loop-pair.invariant
-    (Copy T P ∷ []) c.lay_before.result c.lay_before.new.words (omega arith) c.lay_before.ensures.reads c.lay_before.ensures.laid in
-    let none : c.loop-pair.end - 1 ≡ 0 = omega arith in
-    suffix_all was count (Copy T P ∷ laid) (c.loop-pair.end - 1) c.lay_before.result c.lay_before.new.words c.requires.within more none
-    ∙ ap (λ l. map encoded (number_steps l) ++ drop count was) (take_all c.loop-pair.pair-index ps c.loop-pair-test.false)
+    let (_, _, yields, laid) = c.loop-place.invariant in
+    let (all, _) = YieldsList-end yields _ _ c.loop-place.yielded_by _ _ c.in-None.is c.next.ensures.steps in
+    all_laid c.loop-place.yielded _ c.args.pairs.now all c.requires _ _ laid c.loop-place.auto.words
