@@ -1,6 +1,7 @@
 -- Words laid from the last back to the first. Assumes nothing.
-use Rattle.std.proofs.Common.{◌≡◌, ℕ, zero, suc, get_or, Bor, Option, reverse, subst, ◌+◌, ◌-◌, ◌*◌, ◌<◌, ◌≤◌, Bool, false, ◌||◌, List, [], ◌∷◌, ◌++◌, map, length, drop, set, sum_by, sym, refl, ap, ◌∙◌, append_assoc, arith, length-append}
-use Rattle.std.proofs.Math.Bool.{or_comm}
+use Rattle.std.proofs.Common.{◌≡◌, ℕ, zero, suc, get_or, Bor, Option, reverse, subst, ◌+◌, ◌-◌, ◌*◌, ◌<◌, ◌≤◌, Bool, false, cond, ◌||◌, List, [], ◌∷◌, ◌++◌, map, length, take, drop, set, sum_by, sym, refl, ap, ◌∙◌, append_assoc, append-nil, arith, length-append}
+use Rattle.std.proofs.Math.Bool.{or_assoc, or_comm}
+use Rattle.std.proofs.lemmas.Bool.Decides.{nat_tests}
 use Rattle.std.proofs.Math.ListN.{length-set}
 use Rattle.std.proofs.lemmas.List.{map-append, length-map, drop-set, drop_all, drop_at, take_at, reverse-append, reverse-reverse, length-reverse}
 use Rattle.std.proofs.lemmas.Simd.{map-map}
@@ -21,9 +22,22 @@ use Rattle.steps.specs.declared.step.Step.{Step}
 use Rattle.steps.specs.declared.step.Step.TheVariants.{Copy}
 use Rattle.steps.specs.Words.{encoded}
 use Rattle.chain.specs.Chains.{reads_T, any_reads_T, release, released, pair_steps, pairs_steps, number_steps}
-use Rattle.chain.specs.Laid.{NumberLaid, TooLong}
+use Rattle.chain.specs.Laid.{Written, NumberLaid, TooLong}
 use Rattle.chain.proofs.Releasing.{length_released}
 use Rattle.chain.proofs.Numbers.{pair_short, number_does}
+
+-- lists in two parts: whether a step reads T, what releasing T makes of each part, and the steps of pairs
+pub any_append : (ss rs : List Step) → any_reads_T (ss ++ rs) ≡ (any_reads_T ss || any_reads_T rs)
+any_append [] rs = refl
+any_append (s ∷ ss) rs = ap (λ b. reads_T s || b) (any_append ss rs) ∙ sym (or_assoc (reads_T s) (any_reads_T ss) (any_reads_T rs))
+
+pub released_append : (ss rs : List Step) → released (ss ++ rs) ≡ cond (any_reads_T rs) ss (released ss) ++ released rs
+released_append [] rs = grind arith
+released_append (s ∷ ss) rs = grind (arith, nat_tests, any_append ss rs, released_append ss rs)
+
+pub pairs_append : (ps qs : List Pair) → pairs_steps (ps ++ qs) ≡ pairs_steps qs ++ pairs_steps ps
+pairs_append [] qs = sym (append-nil (pairs_steps qs))
+pairs_append (p ∷ ps) qs = ap (λ l. l ++ pair_steps p) (pairs_append ps qs) ∙ append_assoc (pairs_steps qs) (pairs_steps ps) (pair_steps p)
 
 -- the steps `laid` are laid at the end of the words, each with the word at its own place; `reads` tells whether one of them reads T
 pub record LaidBehind (laid : List Step) (reads : Bool) (words : List ℕ) : Type 0 where
@@ -134,16 +148,21 @@ pub few_steps : (ps : List Pair) → sum_by (λ p. length (pair_steps p)) ps ≤
 few_steps [] = omega arith
 few_steps (p ∷ ps) = let (k, short, low, two) = pair_short p in omega (arith, few_steps ps, sum_by-cons (λ p. length (pair_steps p)) p ps)
 
+-- words at the front, and those behind as they were
+pub written : (ss : List Step) (was is : List ℕ) (count : ℕ) → count ≡ length ss → count ≤ length was → is ≡ map encoded ss ++ drop count was → Written ss was is count
+written ss was is count size within e =
+    let long : length (map encoded ss) ≡ count = omega (arith, length-map ss encoded) in
+    record { counted = size; within = within; front = ap (take count) e ∙ take_at (map encoded ss) (drop count was) count long; behind = ap (drop count) e ∙ drop_at (map encoded ss) (drop count was) count long }
+
 -- a number laid, or refused
 pub number_laid : (n : ℕ) (ps : List Pair) → Recoded table_of_thirty n ps → (was laid : List ℕ) (count : ℕ) → count ≡ length (number_steps ps) → count ≤ length was
     → laid ≡ map encoded (number_steps ps) → NumberLaid n was (laid ++ drop count was) count
 number_laid n ps r was laid count size within e =
-    let long : length laid ≡ count = rw e (omega (arith, length-map (number_steps ps) encoded)) in
     record {
       pairs = ps;
       steps = number_steps ps;
       does = number_does n ps r;
-      written = record { counted = size; within = within; front = take_at laid (drop count was) count long ∙ e; behind = drop_at laid (drop count was) count long };
+      written = written (number_steps ps) was (laid ++ drop count was) count size within (ap (λ l. l ++ drop count was) e);
     }
 
 pub number_too_long : (n : ℕ) (ps : List Pair) → Recoded table_of_thirty n ps → (was : List ℕ) (count : ℕ) → count ≡ length (number_steps ps) → length was < count → TooLong n was was

@@ -16,9 +16,9 @@ use Rattle.steps.specs.Tables.{Row, Table, zeros, act, acts}
 use Rattle.steps.proofs.Lists.{AllLawful}
 use Rattle.chain.specs.Chains.{pair_steps, pairs_steps, reads_T, releasing, any_reads_T, release, released, number_steps}
 
--- a plain step reads T by a copy or a multiply, or T is neither of its registers; it keeps the rule of its kind and is no invert
+-- a plain step reads T by a copy or a multiply, or T is neither of its registers
 abbrev pub plain : Step → Bool
-plain s = (reads_T s || (not (same (first_register s) T) && not (same (second_register s) T))) && (lawful s && not (is_invert s))
+plain s = reads_T s || (not (same (first_register s) T) && not (same (second_register s) T))
 
 abbrev pub AllPlain : List Step → Type 0
 AllPlain ss = list_all plain ss ≡ true
@@ -51,7 +51,7 @@ fits_without_T (s ∷ ss) m f x h e (n, k, ks) =
     let (first, behind) = or_parts (reads_T s) (any_reads_T ss) e in
     (put n T x, after_without_T s m n x p first k, fits_without_T ss n f x ps behind ks)
 
-released_none : (ss : List Step) → any_reads_T ss ≡ false → released ss ≡ ss
+pub released_none : (ss : List Step) → any_reads_T ss ≡ false → released ss ≡ ss
 released_none [] e = refl
 released_none (s ∷ ss) e = grind (arith, nat_tests, released_none ss)
 
@@ -76,6 +76,13 @@ pub length_released : (ss : List Step) → length (released ss) ≡ length ss
 length_released [] = refl
 length_released (s ∷ ss) = ap suc (length_released ss)
 
+-- a proper step keeps the rule of its kind and is no invert
+abbrev proper : Step → Bool
+proper s = lawful s && not (is_invert s)
+
+abbrev AllProper : List Step → Type 0
+AllProper ss = list_all proper ss ≡ true
+
 -- the steps stay lawful, and none inverts
 lawful_release : (b : Bool) (s : Step) → lawful (release b s) ≡ lawful s
 lawful_release b s = grind arith
@@ -83,24 +90,37 @@ lawful_release b s = grind arith
 invert_release : (b : Bool) (s : Step) → is_invert (release b s) ≡ is_invert s
 invert_release b s = grind arith
 
-released_lawful : (ss : List Step) → AllPlain ss → AllLawful (released ss)
+released_lawful : (ss : List Step) → AllProper ss → AllLawful (released ss)
 released_lawful [] h = tt
 released_lawful (s ∷ ss) h = (grind (arith, nat_tests, lawful_release (any_reads_T ss) s), released_lawful ss (grind (arith, nat_tests)))
 
-released_no_invert : (ss : List Step) → AllPlain ss → inverts (released ss) ≡ false
+released_no_invert : (ss : List Step) → AllProper ss → inverts (released ss) ≡ false
 released_no_invert [] h = refl
 released_no_invert (s ∷ ss) h = grind (arith, nat_tests, invert_release (any_reads_T ss) s, released_no_invert ss)
 
--- the steps of a pair are plain, and those of a number before T is released
+-- the steps of a pair are plain and proper, and those of a number before T is released
 pair_plain : (p : Pair) → AllPlain (pair_steps p)
 pair_plain p = grind arith
 
+pair_proper : (p : Pair) → AllProper (pair_steps p)
+pair_proper p = grind arith
+
+pub pair_lawful : (p : Pair) → AllLawful (pair_steps p)
+pair_lawful p = grind arith
+
+-- a test that each step of each pair passes
+pairs_pass : (f : Step → Bool) → ((p : Pair) → list_all f (pair_steps p) ≡ true) → (ps : List Pair) → list_all f (pairs_steps ps) ≡ true
+pairs_pass f h [] = refl
+pairs_pass f h (p ∷ ps) = rw (list_all-append f (pairs_steps ps) (pair_steps p), pairs_pass f h ps) (h p)
+
 pub number_plain : (ps : List Pair) → AllPlain (Copy T P ∷ pairs_steps ps)
-number_plain [] = refl
-number_plain (p ∷ ps) = rw (list_all-append plain (pairs_steps ps) (pair_steps p), number_plain ps) (pair_plain p)
+number_plain = pairs_pass plain pair_plain
+
+number_proper : (ps : List Pair) → AllProper (Copy T P ∷ pairs_steps ps)
+number_proper = pairs_pass proper pair_proper
 
 pub number_lawful : (ps : List Pair) → AllLawful (number_steps ps)
-number_lawful ps = released_lawful (Copy T P ∷ pairs_steps ps) (number_plain ps)
+number_lawful ps = released_lawful (Copy T P ∷ pairs_steps ps) (number_proper ps)
 
 pub number_no_invert : (ps : List Pair) → inverts (number_steps ps) ≡ false
-number_no_invert ps = released_no_invert (Copy T P ∷ pairs_steps ps) (number_plain ps)
+number_no_invert ps = released_no_invert (Copy T P ∷ pairs_steps ps) (number_proper ps)

@@ -1,4 +1,5 @@
 // Weighing a plan: the power of one starting register that it leaves in one end register.
+ghost use Rattle.steps.specs.Sets.{members};
 ghost use Rattle.chain.specs.Weights.{Weighs, WeighsNumber};
 
 use steps::{Register, RegisterSet, WalkFault, walk};
@@ -13,8 +14,8 @@ pub fn weigh(
     end_register: Register,
     start_register: Register,
 ) -> Result<u64, WalkFault>
-    ensures entry { Weighs start words.now end_register start_register result }
-    ensures number { WeighsNumber start words.now end_register start_register result }
+    ensures entry { Weighs (members start) words.now end_register start_register result }
+    ensures number { WeighsNumber (members start) words.now end_register start_register result }
 {
     let column = walk(start, start_register, words)?;
     Ok(column.get(end_register))

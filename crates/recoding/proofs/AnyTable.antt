@@ -8,8 +8,17 @@ use Rattle.recoding.specs.Tables.{entry, Fits, Fitting}
 use Rattle.recoding.specs.Divisions.{DividesOnce, Recoded, EveryFittingTableDivides}
 
 -- 1 has no pairs
-none : (table : List Pair) → Recoded table 1 []
+pub none : (table : List Pair) → Recoded table 1 []
 none table = record { divided = refl; worth_is = refl; few = omega arith }
+
+-- the pair of one division before the pairs of what is left, which is at most half
+pub before : (table : List Pair) (n : ℕ) (p : Pair) (m : ℕ) (ps : List Pair) → DividesOnce table n p m → m + m ≤ n → Recoded table m ps → Recoded table n (p ∷ ps)
+before table n p m ps d half rest =
+    record {
+      divided = (m, d, rest.divided);
+      worth_is = ap (λ x. base_of p * x + digit_of p) rest.worth_is ∙ sym d.exact;
+      few = omega (arith, pow-suc 2 (length ps));
+    }
 
 module _ (table : List Pair) (fit : Fitting table) where
   -- every number above 1 is divided, exactly
@@ -25,19 +34,6 @@ module _ (table : List Pair) (fit : Fitting table) where
       let fits : Fits (n % 30) p = subst (Fits (n % 30)) (sym d.picked) (fit.entries (n % 30) (omega arith)) in
       (grind (arith, nat_tests), grind (arith, nat_tests))
 
-  -- the pair of one division before the pairs of what is left
-  pub before : (n : ℕ) (p : Pair) (m : ℕ) (ps : List Pair)
-      → DividesOnce table n p m
-      → Recoded table m ps
-      → Recoded table n (p ∷ ps)
-  before n p m ps d rest =
-      let half = (falls n p m d).1 in
-      record {
-        divided = (m, d, rest.divided);
-        worth_is = ap (λ x. base_of p * x + digit_of p) rest.worth_is ∙ sym d.exact;
-        few = omega (arith, pow-suc 2 (length ps));
-      }
-
   below : (bound n : ℕ) → n ≤ bound → 0 < n → (ps : List Pair) × Recoded table n ps
   below zero n small positive = absurd (omega arith)
   below (suc bound) n small positive =
@@ -46,7 +42,7 @@ module _ (table : List Pair) (fit : Fitting table) where
       let (m, d) = once n above in
       let (left, half) = falls n _ m d in
       let (ps, rest) = below bound m (omega arith) left in
-      (_ ∷ ps, before n _ m ps d rest))
+      (_ ∷ ps, before table n _ m ps d half rest))
       (λ low. ([], subst (λ x. Recoded table x []) (omega arith) (none table)))
       (cases_lt 1 n)
 

@@ -1,9 +1,9 @@
--- Thirty entries fit for division if one test passes, which antt computes. Assumes nothing.
+-- Thirty entries fit for division if one test passes, which antt computes; those in use do. Assumes nothing.
 use Rattle.std.proofs.Common.{◌≡◌, ℕ, zero, suc, ◌+◌, ◌%◌, Bool, true, ◌&&◌, eqb, leb, List, length, refl, arith}
 use Rattle.std.proofs.lemmas.Bool.Decides.{nat_tests, Decides-below_and}
 use Rattle.recoding.specs.declared.pair.Pair.{Pair}
 use Rattle.recoding.specs.Pairs.{base_of, digit_of}
-use Rattle.recoding.specs.Tables.{entry, least, Fits, Fitting}
+use Rattle.recoding.specs.Tables.{table_of_thirty, entry, least, Fits, Fitting}
 
 module _ (table : List Pair) where
   abbrev fits : ℕ → Bool
@@ -25,3 +25,6 @@ module _ (table : List Pair) where
   fitting_by_test thirty passes =
       let each = Decides-below_and fits (λ c. fits c ≡ true) fit_below (λ c. (λ t. t, λ t. t)) refl (λ _. refl) 30 in
       record { thirty = thirty; entries = λ c h. told c (each.0 passes c h) }
+
+pub thirty_fit : Fitting table_of_thirty
+thirty_fit = fitting_by_test table_of_thirty refl refl

@@ -1,11 +1,11 @@
 -- The division down to 1 by a fitting table, turn by turn. Assumes nothing.
-use Rattle.std.proofs.Common.{◌≡◌, ℕ, ◌+◌, ◌^◌, ◌<◌, ◌≤◌, List, [], ◌∷◌, ◌++◌, length, take, set, ap, ◌∙◌, subst, ⊎_elim, arith, length-append, length-set, pow_mono}
+use Rattle.std.proofs.Common.{◌≡◌, ℕ, ◌+◌, ◌^◌, ◌<◌, ◌≤◌, List, [], ◌∷◌, ◌++◌, length, take, set, sym, ap, ◌∙◌, subst, ⊎_elim, arith, length-append, length-set, pow_mono}
 use Rattle.std.proofs.lemmas.List.{append_assoc, append-nil, length-take-le, nil_from_length, take_more_set}
 use Rattle.std.proofs.lemmas.Bool.{cases_lt}
 use Rattle.recoding.specs.declared.pair.Pair.{Pair}
 use Rattle.recoding.specs.Tables.{Fitting}
 use Rattle.recoding.specs.Divisions.{DividesOnce, Recoded}
-use Rattle.recoding.proofs.AnyTable.{falls, before, every_fitting}
+use Rattle.recoding.proofs.AnyTable.{none, before, every_fitting}
 
 -- a number below 2 ^ 64 has at most 63 pairs
 at_most : (table : List Pair) (n : ℕ) (ps : List Pair) → Recoded table n ps → n < 2 ^ 64 → length ps < 64
@@ -19,21 +19,26 @@ module _ (table : List Pair) (number : ℕ) where
     pub left : 1 ≤ rest
     pub completed : (ps : List Pair) → Recoded table rest ps → Recoded table number (take count pairs ++ ps)
 
-module _ (table : List Pair) (fit : Fitting table) (number rest count : ℕ) (pairs : List Pair) (s : Sofar table number rest count pairs) where
-  pub more : (p : Pair) (next : ℕ) → DividesOnce table rest p next → count < 63 → Sofar table number next (count + 1) (set pairs count p)
-  more p next once room =
+module _ (table : List Pair) (number rest count : ℕ) (pairs : List Pair) (s : Sofar table number rest count pairs) where
+  pub more : (p : Pair) (next : ℕ) → DividesOnce table rest p next → 1 ≤ next → next + next ≤ rest → count < 63 → Sofar table number next (count + 1) (set pairs count p)
+  more p next once left half room =
       let free : count < length pairs = omega (arith, s.places) in
       record {
         places = length-set pairs count p ∙ s.places;
-        left = (falls table fit rest p next once).0;
+        left = left;
         completed = λ ps r.
             rw (take_more_set pairs count p free, append_assoc (take count pairs) (p ∷ []) ps)
-            (s.completed (p ∷ ps) (before table fit rest p next ps once r));
+            (s.completed (p ∷ ps) (before table rest p next ps once half r));
       }
 
-  -- 63 pairs are all
-  pub full : number < 2 ^ 64 → count ≡ 63 → Recoded table number (take 63 pairs)
-  full small all =
+  -- where 1 is left the pairs are all
+  pub done : rest ≡ 1 → Recoded table number (take count pairs)
+  done one =
+      subst (Recoded table number) (append-nil (take count pairs)) (s.completed [] (subst (λ x. Recoded table x []) (sym one) (none table)))
+
+  -- and so are 63
+  pub full : Fitting table → number < 2 ^ 64 → count ≡ 63 → Recoded table number (take 63 pairs)
+  full fit small all =
       let (ps, r) = every_fitting table fit rest s.left in
       let whole = subst (λ (k : ℕ). Recoded table number (take k pairs ++ ps)) all (s.completed ps r) in
       let few = at_most table number (take 63 pairs ++ ps) whole small in

@@ -39,6 +39,7 @@ const DIVISION_TABLE: [Pair; 30] = [
 ];
 
 /// The thirty entries, by remainder.
+#[tactic(auto, using(crate::proofs::Fit::thirty_fit, crate::proofs::AnyTable::every_fitting))]
 pub fn division_table() -> [Pair; 30]
     ensures value { result ≡ table_of_thirty }
     ensures fits { Fitting result }

@@ -20,7 +20,7 @@ fields k a b ha hb =
     let rest : w % 2 ^ 24 ≡ 0 = omega arith in
     λ i. by_kind (kind_numbered (top i)) (register_numbered (first i)) (register_numbered (second i)) (eqb (rest i) 0)
 
-register_low : (a : Register) → number_of a < 3
+pub register_low : (a : Register) → number_of a < 3
 register_low a = grind arith
 
 step_back : (s : Step) → lawful s ≡ true

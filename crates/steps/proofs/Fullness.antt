@@ -31,11 +31,11 @@ fits_turned [] s f d e = sym e
 fits_turned (x ∷ xs) s f (d, ds) (m, e, h) = rw (turned_cons x xs) (fits_append (turned xs) (transposed x ∷ []) f m s (fits_turned xs m f ds h) (s, step_back x s m d e, refl))
 
 -- counts
-squarings_append : (ss rs : List Step) → squarings (ss ++ rs) ≡ squarings ss + squarings rs
+pub squarings_append : (ss rs : List Step) → squarings (ss ++ rs) ≡ squarings ss + squarings rs
 squarings_append [] rs = omega arith
 squarings_append (s ∷ ss) rs = omega (arith, squarings_append ss rs)
 
-multiplications_append : (ss rs : List Step) → multiplications (ss ++ rs) ≡ multiplications ss + multiplications rs
+pub multiplications_append : (ss rs : List Step) → multiplications (ss ++ rs) ≡ multiplications ss + multiplications rs
 multiplications_append [] rs = omega arith
 multiplications_append (s ∷ ss) rs = omega (arith, multiplications_append ss rs)
 

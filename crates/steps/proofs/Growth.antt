@@ -1,5 +1,5 @@
 -- A column of a table without invert steps as natural numbers: its largest never falls along steps that fit. Assumes nothing.
-use Rattle.std.proofs.Common.{◌≡◌, ℕ, zero, suc, ◌≤◌, true, false, List, [], ◌∷◌, take, drop, pos, Ok, refl, ap, ◌∙◌, inl, inr, arith}
+use Rattle.std.proofs.Common.{◌≡◌, ℕ, zero, suc, ◌≤◌, true, false, List, [], ◌∷◌, take, drop, pos, Ok, refl, ap, ◌∙◌, subst, inl, inr, arith}
 use Rattle.std.proofs.lemmas.Bool.{or_parts, cases_lt}
 use Rattle.steps.specs.declared.register.Register.{Register}
 use Rattle.steps.specs.declared.register.Register.TheVariants.{T, P, Q}
@@ -36,16 +36,20 @@ grown_column ss s c r h =
     entry_table s ss r c ∙ ap (λ v. at v r) (ap (steps_column ss) (column_opened s c) ∙ grown_steps ss (opened s c) h) ∙ at_mapped pos (grown_all ss (opened s c)) r
 
 -- 0 at every register outside the set
-abbrev EmptyOutside : Registers ℕ → Full → Type 0
+abbrev pub EmptyOutside : Registers ℕ → Full → Type 0
 EmptyOutside v s = (r : Register) → at s r ≡ false → at v r ≡ 0
 
-opened_empty : (s : Full) (c : Register) → EmptyOutside (opened s c) s
+pub opened_empty : (s : Full) (c : Register) → EmptyOutside (opened s c) s
 opened_empty s c r e = grind arith
 
 grown_step_empty : (x : Step) (s m : Full) → after x s ≡ Ok m → (v : Registers ℕ) → EmptyOutside v s → EmptyOutside (grown x v) m
 grown_step_empty x s m e v h T k = grind (arith, h T, h P, h Q)
 grown_step_empty x s m e v h P k = grind (arith, h T, h P, h Q)
 grown_step_empty x s m e v h Q k = grind (arith, h T, h P, h Q)
+
+pub grown_empty : (ss : List Step) (s f : Full) (v : Registers ℕ) → Fits s ss f → EmptyOutside v s → EmptyOutside (grown_all ss v) f
+grown_empty [] s f v e h = subst (EmptyOutside v) e h
+grown_empty (x ∷ xs) s f v (m, e, k) h = grown_empty xs m f (grown x v) k (grown_step_empty x s m e v h)
 
 -- the largest entry
 pub at_peak : (v : Registers ℕ) (r : Register) → at v r ≤ peak v
@@ -62,10 +66,13 @@ peak_somewhere v =
 peak_step : (x : Step) (s m : Full) → lawful x ≡ true → after x s ≡ Ok m → (v : Registers ℕ) → EmptyOutside v s → peak v ≤ peak (grown x v)
 peak_step x s m d e v h = grind (arith, h T, h P, h Q)
 
+pub peak_rises : (ss : List Step) (s f : Full) (v : Registers ℕ) → AllLawful ss → Fits s ss f → EmptyOutside v s → peak v ≤ peak (grown_all ss v)
+peak_rises [] s f v d e z = omega arith
+peak_rises (x ∷ xs) s f v (d, ds) (m, e, h) z =
+    omega (arith, peak_step x s m d e v z, peak_rises xs m f (grown x v) ds h (grown_step_empty x s m e v z))
+
 peak_take : (k : ℕ) (ss : List Step) (s f : Full) (v : Registers ℕ) → AllLawful ss → Fits s ss f → EmptyOutside v s → peak (grown_all (take k ss) v) ≤ peak (grown_all ss v)
-peak_take zero [] s f v d e z = omega arith
-peak_take zero (x ∷ xs) s f v (d, ds) (m, e, h) z =
-    omega (arith, peak_step x s m d e v z, peak_take zero xs m f (grown x v) ds h (grown_step_empty x s m e v z))
+peak_take zero ss s f v d h z = peak_rises ss s f v d h z
 peak_take (suc k) [] s f v d e z = omega arith
 peak_take (suc k) (x ∷ xs) s f v (d, ds) (m, e, h) z = peak_take k xs m f (grown x v) ds h (grown_step_empty x s m e v z)
 

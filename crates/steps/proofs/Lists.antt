@@ -38,7 +38,7 @@ pub lawful_turned : (ss : List Step) → AllLawful ss → AllLawful (turned ss)
 lawful_turned [] h = tt
 lawful_turned (s ∷ ss) (h, hs) = rw (turned_cons s ss) (lawful_append (turned ss) (transposed s ∷ []) (lawful_turned ss hs) (lawful_transposed s h, tt))
 
-transposed_transposed : (s : Step) → transposed (transposed s) ≡ s
+pub transposed_transposed : (s : Step) → transposed (transposed s) ≡ s
 transposed_transposed s = grind arith
 
 pub turned_turned : (ss : List Step) → turned (turned ss) ≡ ss

@@ -3,13 +3,14 @@ use Rattle.std.proofs.Common.{◌≡◌, ℕ, suc, ◌+◌, ◌<◌, ◌≤◌, 
 use Rattle.std.specs.List.{list_any}
 use Rattle.std.proofs.lemmas.List.{map_more, map_push, take_all}
 use Rattle.steps.specs.declared.fault.RegisterFault.{RegisterFault}
+use Rattle.steps.specs.declared.fault.StepAt.{StepAt}
 use Rattle.steps.specs.declared.fault.WordFault.{WordFault}
 use Rattle.steps.specs.declared.step.Step.{Step}
 use Rattle.steps.specs.Sets.{Full}
 use Rattle.steps.specs.Steps.{squarings, multiplications, is_invert, inverts}
 use Rattle.steps.specs.Words.{encoded, decoded}
 use Rattle.steps.specs.Fullness.{after}
-use Rattle.steps.specs.Plans.{step_before, steps_in, of_registers, step_from, stepped, Plan}
+use Rattle.steps.specs.Plans.{step_before, steps_in, of_registers, step_from, stepped, Plan, Refused}
 use Rattle.steps.proofs.Fields.{encode_decode}
 use Rattle.steps.proofs.Lists.{AllLawful, fits_append}
 
@@ -29,9 +30,12 @@ by_words F none more (w ∷ ws) (s ∷ ss) e = more w s ws ss (cc) (by_words F n
 by_registers : (r : Result Full RegisterFault) (f : Full) → of_registers r ≡ Ok f → r ≡ Ok f
 by_registers r f e = grind arith
 
-by_word : (d : Result Step WordFault) (s f : Full) → step_from s d ≡ Ok f → (x : Step) × (d ≡ Ok x) × (after x s ≡ Ok f)
+pub by_word : (d : Result Step WordFault) (s f : Full) → step_from s d ≡ Ok f → (x : Step) × (d ≡ Ok x) × (after x s ≡ Ok f)
 by_word (Ok x) s f e = (x, refl, by_registers (after x s) f e)
 by_word (Err x) s f e = cc
+
+pub plan_none : (s : Full) (ws : List ℕ) → Plan s (take 0 ws) [] s
+plan_none s ws = record { words = refl; fits = refl }
 
 -- a plan of the first words, and the word behind them
 pub plan_more : (s m f : Full) (ws : List ℕ) (ss : List Step) (i : ℕ) → i < length ws → Plan s (take i ws) ss m → stepped m (get_or ws i 0) ≡ Ok f
@@ -44,6 +48,10 @@ plan_more s m f ws ss i h p e =
         fits = fits_append ss (x ∷ []) s m f p.fits (f, goes, refl);
       },
     )
+
+pub refused_at : (s m : Full) (ws : List ℕ) (ss : List Step) (i : ℕ) (e : StepAt) → i < length ws → Plan s (take i ws) ss m
+    → (e.place ≡ i) × (stepped m (get_or ws i 0) ≡ Err e.fault) → Refused s ws e
+refused_at s m ws ss i e h p (q, f) = record { steps = ss; full = m; place = rw q h; before = rw q p; fault = rw q f }
 
 pub plan_all : (s f : Full) (ws : List ℕ) (ss : List Step) (i : ℕ) → length ws ≤ i → Plan s (take i ws) ss f → Plan s ws ss f
 plan_all s f ws ss i h p = rw (take_all i ws h) at p
@@ -68,10 +76,13 @@ squarings_before d ss = grind arith
 pub multiplications_before : (d : Result Step WordFault) (ss : List Step) → multiplications (step_before d ss) ≡ multiplications (step_before d []) + multiplications ss
 multiplications_before d ss = grind arith
 
+pub inverts_before : (d : Result Step WordFault) (ss : List Step) → inverts (step_before d ss) ≡ (inverts (step_before d []) || inverts ss)
+inverts_before d ss = grind arith
+
 -- words that are a plan's have an invert step among them if its steps do
-inverts_before : (d : Result Step WordFault) (s : Step) (b : Bool) → d ≡ Ok s → (inverts (step_before d []) || b) ≡ (is_invert s || b)
-inverts_before d s b e = grind arith
+inverts_word : (d : Result Step WordFault) (s : Step) (b : Bool) → d ≡ Ok s → (inverts (step_before d []) || b) ≡ (is_invert s || b)
+inverts_word d s b e = grind arith
 
 pub plan_inverts : (ws : List ℕ) (ss : List Step) → map decoded ws ≡ oks ss → list_any (λ w. inverts (steps_in (w ∷ []))) ws ≡ inverts ss
 plan_inverts =
-    by_words (λ ws ss. list_any (λ w. inverts (steps_in (w ∷ []))) ws ≡ inverts ss) refl (λ w s ws ss e h. ap (λ b. inverts (steps_in (w ∷ [])) || b) h ∙ inverts_before (decoded w) s (inverts ss) e)
+    by_words (λ ws ss. list_any (λ w. inverts (steps_in (w ∷ []))) ws ≡ inverts ss) refl (λ w s ws ss e h. ap (λ b. inverts (steps_in (w ∷ [])) || b) h ∙ inverts_word (decoded w) s (inverts ss) e)

@@ -5,7 +5,8 @@ use Rattle.steps.specs.declared.judgement.Judgement.{Judgement}
 use Rattle.steps.specs.declared.step.Counts.{Counts}
 use Rattle.steps.specs.declared.step.Kind.{Kind}
 use Rattle.steps.specs.declared.step.Step.{Step}
-use Rattle.steps.specs.Sets.{Full, size}
+use Rattle.steps.specs.declared.register_set.RegisterSet.{RegisterSet}
+use Rattle.steps.specs.Sets.{Full, members, size}
 use Rattle.steps.specs.Steps.{kind_of, multiplying, multiplications, transposed, turned}
 use Rattle.steps.specs.Words.{encoded, decoded}
 use Rattle.steps.specs.Plans.{transpose_or, word_transposed, Accepted, TurnedRound}
@@ -39,32 +40,32 @@ module _ (s : Full) (ws : List ℕ) (j : Judgement) (a : Accepted s ws j) where
   law : AllLawful a.steps
   law = plan_lawful ws a.steps a.plan.words
 
-  grow : multiplications (turned a.steps) + size s ≡ multiplications a.steps + size j.full
-  grow = multiplications_turned a.steps s j.full law a.plan.fits
+  grow : multiplications (turned a.steps) + size s ≡ multiplications a.steps + size (members j.full)
+  grow = multiplications_turned a.steps s (members j.full) law a.plan.fits
 
   -- what the sum of the counts asks
-  pub counts_low : size s ≤ j.counts.multiplications + size j.full
+  pub counts_low : size s ≤ j.counts.multiplications + size (members j.full)
   counts_low = let e = ap (λ (k : Counts). k.multiplications) a.counted in omega (arith, grow)
 
-  pub counts_high : length ws < 2 ^ 64 → j.counts.multiplications + size j.full < 2 ^ 64 + size s
+  pub counts_high : length ws < 2 ^ 64 → j.counts.multiplications + size (members j.full) < 2 ^ 64 + size s
   counts_high h =
       let e = ap (λ (k : Counts). k.multiplications) a.counted in
       let l = multiplications_length (turned a.steps) in
       let l' = length-map (reverse a.steps) transposed ∙ length-reverse a.steps ∙ plan_length ws a.steps a.plan.words in
       omega (arith, grow, l, l')
 
-  pub turned_round : (is : List ℕ) (n : ℕ) → is ≡ map word_transposed (reverse ws) → n + size s ≡ j.counts.multiplications + size j.full
-      → TurnedRound s ws is (record { start = j.full; full = s; counts = record { squarings = j.counts.squarings; multiplications = n } })
-  turned_round is n e g =
+  pub turned_round : (o : RegisterSet) → members o ≡ s → (is : List ℕ) (n : ℕ) → is ≡ map word_transposed (reverse ws) → n + size s ≡ j.counts.multiplications + size (members j.full)
+      → TurnedRound s ws is (record { start = j.full; full = o; counts = record { squarings = j.counts.squarings; multiplications = n } })
+  turned_round o begins is n e g =
       let es = ap (λ (k : Counts). k.squarings) a.counted ∙ sym (squarings_turned a.steps) in
       let em : n ≡ multiplications (turned a.steps) = let m = ap (λ (k : Counts). k.multiplications) a.counted in omega (arith, grow) in
       record {
         steps = a.steps;
         plan = a.plan;
         written = sym (plan_encoded is (turned a.steps) (ap (map decoded) e ∙ words_turned ws a.steps a.plan.words));
-        back = record { words = ap (map decoded) e ∙ words_turned ws a.steps a.plan.words; fits = fits_turned a.steps s j.full law a.plan.fits };
-        ends = refl;
-        table_exchanged = table_turned a.steps s j.full law a.plan.fits;
+        back = record { words = ap (map decoded) e ∙ words_turned ws a.steps a.plan.words; fits = fits_turned a.steps s (members j.full) law a.plan.fits };
+        ends = begins;
+        table_exchanged = table_turned a.steps s (members j.full) law a.plan.fits;
         counted = λ i. record { squarings = es i; multiplications = em i };
         squarings_stay = squarings_turned a.steps;
         multiplications_grow = grow;

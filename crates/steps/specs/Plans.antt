@@ -12,7 +12,7 @@ use Rattle.steps.specs.declared.register.Register.{Register}
 use Rattle.steps.specs.declared.register.Registers.{Registers}
 use Rattle.steps.specs.declared.step.Step.{Step}
 use Rattle.steps.specs.Registers.{at}
-use Rattle.steps.specs.Sets.{Full, size}
+use Rattle.steps.specs.Sets.{Full, members, size}
 use Rattle.steps.specs.Steps.{squarings, multiplications, counts_of, inverts, transposed, turned}
 use Rattle.steps.specs.Words.{encoded, decoded}
 use Rattle.steps.specs.Fullness.{after, Fits}
@@ -59,11 +59,11 @@ pub record Within (s f : Full) (t : Table) : Type 0 where
 
 -- judged to be a plan
 pub record Accepted (s : Full) (ws : List ℕ) (j : Judgement) : Type 0 where
-  pub begins : j.start ≡ s
+  pub begins : members j.start ≡ s
   pub steps : List Step
-  pub plan : Plan s ws steps j.full
+  pub plan : Plan s ws steps (members j.full)
   pub counted : j.counts ≡ counts_of steps
-  pub outside : Within s j.full (table s steps)
+  pub outside : Within s (members j.full) (table s steps)
 
 -- refused: the words before the place are a plan, and the word there is no step that fits behind it
 pub record Refused (s : Full) (ws : List ℕ) (e : StepAt) : Type 0 where
@@ -80,14 +80,14 @@ Judges s ws (Err e) = Refused s ws e
 -- turned: the plan fits back, its table has rows and columns exchanged, and turned again it has the words that were given
 pub record TurnedRound (s : Full) (was is : List ℕ) (r : Judgement) : Type 0 where
   pub steps : List Step
-  pub plan : Plan s was steps r.start
+  pub plan : Plan s was steps (members r.start)
   pub written : is ≡ map encoded (turned steps)
-  pub back : Plan r.start is (turned steps) s
-  pub ends : r.full ≡ s
-  pub table_exchanged : table r.start (turned steps) ≡ exchanged (table s steps)
+  pub back : Plan (members r.start) is (turned steps) s
+  pub ends : members r.full ≡ s
+  pub table_exchanged : table (members r.start) (turned steps) ≡ exchanged (table s steps)
   pub counted : r.counts ≡ counts_of (turned steps)
   pub squarings_stay : squarings (turned steps) ≡ squarings steps
-  pub multiplications_grow : multiplications (turned steps) + size s ≡ multiplications steps + size r.start
+  pub multiplications_grow : multiplications (turned steps) + size s ≡ multiplications steps + size (members r.start)
   pub turned_again : map encoded (turned (turned steps)) ≡ was
 
 abbrev pub Turns : Full → List ℕ → List ℕ → Result Judgement StepAt → Type 0

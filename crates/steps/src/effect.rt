@@ -1,5 +1,6 @@
 // What a step needs of the full registers and what it leaves full.
-ghost use Rattle.std.specs.Prelude.{◌≡◌};
+ghost use Rattle.std.specs.Prelude.{◌≡◌, Ok, Err, MatchResult};
+ghost use Rattle.steps.specs.Sets.{members};
 ghost use Rattle.steps.specs.Fullness.{after};
 
 use super::fault::RegisterFault;
@@ -9,7 +10,7 @@ use super::step::Step;
 impl Step {
     /// The full registers after the step, or why they do not allow it: a register that has to be full is looked at first.
     pub fn apply(self, full: RegisterSet) -> Result<RegisterSet, RegisterFault>
-        ensures { result ≡ after self full }
+        ensures { MatchResult result (λ s. after self (members full) ≡ Ok (members s)) (λ e. after self (members full) ≡ Err e) }
     {
         let (a, b) = self.registers();
         if !full.contains(a) {

@@ -8,6 +8,7 @@ mod judgement;
 mod judging;
 mod register;
 mod register_set;
+mod sets;
 mod step;
 #[cfg(test)]
 mod tests;

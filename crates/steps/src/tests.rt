@@ -36,6 +36,11 @@ fn words(rt: HostRuntime) -> Result<(), Fail> {
     Ok(())
 }
 
+// The numbers of the start set and of the set at the end.
+fn numbers(judgement: Judgement) -> (u32, u32) {
+    (u32::from(judgement.start), u32::from(judgement.full))
+}
+
 #[test]
 fn plans(rt: HostRuntime) -> Result<(), Fail> {
     let (t, p) = (RegisterSet::try_from(1)?, RegisterSet::try_from(2)?);
@@ -71,8 +76,14 @@ fn plans(rt: HostRuntime) -> Result<(), Fail> {
         full: t,
         counts,
     };
-    assert_eq!(rt; judge(t, &words)?, from_t_to_p);
-    assert_eq!(rt; turn(t, &mut words)?, from_p_to_t);
+    let judged = judge(t, &words)?;
+    assert_eq!(rt; judged, from_t_to_p);
+    assert_eq!(rt; numbers(judged), (1, 2));
+    let back = turn(t, &mut words)?;
+    assert_eq!(rt; back, from_p_to_t);
+    assert_eq!(rt; numbers(back), (2, 1));
+    // A value that holds sets is copied where it is passed, and can be passed again.
+    assert_eq!(rt; numbers(judged), numbers(from_t_to_p));
     assert_eq!(rt; words, turned);
     let open = turn(t, &mut [0x1100_0000])?;
     let open_counts = Counts {

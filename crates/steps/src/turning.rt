@@ -1,6 +1,6 @@
 // A list of steps turned round: reversed, and each step transposed.
 ghost use Rattle.std.specs.Prelude.{◌≡◌, ◌+◌, ◌^◌, ◌<◌, ◌≤◌, map, reverse};
-ghost use Rattle.steps.specs.Sets.{size};
+ghost use Rattle.steps.specs.Sets.{members, size};
 ghost use Rattle.steps.specs.Plans.{word_transposed, Turns};
 
 use super::fault::StepAt;
@@ -28,9 +28,9 @@ fn turn_words(words: &mut [u32])
 
 // The multiplications of turned steps: more by the registers that were full at the end, less by those full at the start.
 fn turned_multiplications(multiplications: usize, full: RegisterSet, start: RegisterSet) -> usize
-    requires low { size start ≤ multiplications + size full }
-    requires high { multiplications + size full < 2 ^ 64 + size start }
-    ensures { result + size start ≡ multiplications + size full }
+    requires low { size (members start) ≤ multiplications + size (members full) }
+    requires high { multiplications + size (members full) < 2 ^ 64 + size (members start) }
+    ensures { result + size (members start) ≡ multiplications + size (members full) }
 {
     let (more, less) = (usize::from(full.len()), usize::from(start.len()));
     if more >= less {
@@ -43,7 +43,7 @@ fn turned_multiplications(multiplications: usize, full: RegisterSet, start: Regi
 /// Turns the words of a list of steps that fits from the start set, and answers what is then found of them; other words
 /// are refused and stay.
 pub fn turn(start: RegisterSet, words: &mut [u32]) -> Result<Judgement, StepAt>
-    ensures { Turns start words.old words.new result }
+    ensures { Turns (members start) words.old words.new result }
 {
     let judgement = judge(start, words)?;
     turn_words(words);

@@ -2,6 +2,7 @@
 ghost use Rattle.std.specs.Prelude.{◌≡◌, ◌+◌, ◌^◌, ◌≤◌, true, [], ◌∷◌, Ok, MatchOption};
 ghost use Rattle.std.specs.List.{list_any};
 ghost use Rattle.steps.specs.Registers.{at, put};
+ghost use Rattle.steps.specs.Sets.{members};
 ghost use Rattle.steps.specs.Steps.{lawful, inverts};
 ghost use Rattle.steps.specs.Words.{decoded};
 ghost use Rattle.steps.specs.Columns.{opened, Grows};
@@ -29,7 +30,7 @@ fn has_invert(words: &[u32]) -> bool
 
 // The column of a starting register before the first step.
 fn opening_entries(start: RegisterSet, column: Register) -> Registers<u64>
-    ensures { result ≡ opened start column }
+    ensures { result ≡ opened (members start) column }
 {
     let mut entries = Registers::default();
     if start.contains(column) {
@@ -93,7 +94,7 @@ pub fn walk(
     column: Register,
     words: &[u32],
 ) -> Result<Registers<u64>, WalkFault>
-    ensures { Walks start column words.now result }
+    ensures { Walks (members start) column words.now result }
 {
     let _ = judge(start, words)?;
     if has_invert(words) {

@@ -17,8 +17,8 @@ loop-place-init c =
       YieldsList-at c.into_iter-place-iterator.ensures.into_iter_gives
           (YieldsList-from_zip places
           (YieldsList-from_chain
-          (YieldsList-from_flat_map _ _ _ _ (λ p. reverse (pair_steps p)) _ (λ x u q k. (search rules, λ j b. YieldsList-from_rev_slice (pair_steps x.now) (search rules))) (YieldsList-from_slice c.args.pairs.now (cc)) (cc) (cc) (cc) (cc))
-          (YieldsList-from_slice (Copy T P ∷ []) (cc)) (cc) (cc))),
+          (YieldsList-from_flat_map _ _ _ _ (λ p. reverse (pair_steps p)) _ (λ x u q k. (search rules, λ j b. YieldsList-from_rev_slice (pair_steps x.now) (search rules))) (YieldsList-from_slice c.args.pairs.now (search rules)) (cc) (cc) (cc) (cc))
+          (YieldsList-from_slice (Copy T P ∷ []) (search rules)) (cc) (cc))),
       none_laid c.args.words.now,
     )
 

@@ -1,6 +1,7 @@
 use Rattle.std.proofs.Common.{◌≡◌, ◌+◌, ◌^◌, ◌≤◌, false, take, sym, ◌∙◌, subst, arith, rules}
 use Rattle.std.proofs.lemmas.List.{take_all}
 use Rattle.std.proofs.lemmas.Result.{err_from_is_err_and}
+use Rattle.steps.specs.Sets.{members}
 use Rattle.steps.specs.Steps.{inverts}
 use Rattle.steps.specs.Columns.{opened, peak}
 use Rattle.steps.proofs.Growth.{grown_all}
@@ -13,7 +14,7 @@ returns-then-has_invert c =
     let a = c.in_ok-judge.ensures in
     record {
       steps = a.steps;
-      full = c.in_ok-judge.field-0.full;
+      full = members c.in_ok-judge.field-0.full;
       plan = a.plan;
       some_invert = sym (plan_inverts c.args.words.now a.steps a.plan.words) ∙ sym c.if-has_invert.ensures;
     }
@@ -30,7 +31,7 @@ returns-in_err-entries c =
     let none = c.in_err-entries.ensures.ok_part in
     let fault = p.2 ∙ overflow_is c.entries_after_word.result c.in_err-entries.field-0.0 none c.in_err-entries.ensures.value in
     rw (p.1, fault)
-    (overflows c.args.start c.in_ok-judge.field-0.full c.args.column ws a.steps a.plan plain (i + 1)
+    (overflows (members c.args.start) (members c.in_ok-judge.field-0.full) c.args.column ws a.steps a.plan plain (i + 1)
     (subst (λ v. 2 ^ 64 ≤ peak (grown_all (take (i + 1) a.steps) v)) c.opening_entries-entries.ensures over))
 
 pub loop-word-preserved : goal.loop-word-preserved
@@ -47,6 +48,6 @@ returns c =
     let ws = c.args.words.now in
     let plain : inverts a.steps ≡ false = sym (plan_inverts ws a.steps a.plan.words) ∙ sym c.if-has_invert.ensures in
     let all = take_all c.loop-word.word-index a.steps (omega (arith, plan_length ws a.steps a.plan.words)) in
-    let whole : c.loop-word.entries ≡ grown_all a.steps (opened c.args.start c.args.column) =
+    let whole : c.loop-word.entries ≡ grown_all a.steps (opened (members c.args.start) c.args.column) =
     c.loop-word.invariant.0 a.steps a.plan.words ∙ (λ i. grown_all (all i) (c.opening_entries-entries.ensures i)) in
-    walked c.args.start c.in_ok-judge.field-0.full c.args.column ws a.steps a.plan plain c.loop-word.entries whole c.loop-word.invariant.1
+    walked (members c.args.start) (members c.in_ok-judge.field-0.full) c.args.column ws a.steps a.plan plain c.loop-word.entries whole c.loop-word.invariant.1
